@@ -1,0 +1,2 @@
+mod FaultOrder
+pub mod Turns
