@@ -12,7 +12,8 @@ use Rattle.model.specs.declared.fault.Refusal.the-variants.{Malformed, Limit, 
 use Rattle.model.specs.declared.fault.Layer.{Layer}
 use Rattle.model.specs.declared.fault.Layer.the-variants.{Image, Schema, Request, Entity, Walk}
 use Rattle.model.specs.declared.fault.Fault.{Fault}
-use Rattle.model.specs.Faults.{refusalNumber, layerNumber, lexical, precedes, Total-order}
+use Rattle.model.specs.Faults.{refusalNumber, layerNumber, lexical, precedes}
+use Rattle.model.specs.Orders.{Total}
 
 -- one level of the order: what holds of the rest holds with the number in front of it
 level-both : (m n : ℕ) (x y : Bool) → (x ≡ true → y ≡ true → ⊥) → lexical m n x ≡ true → lexical n m y ≡ true → ⊥
@@ -108,5 +109,5 @@ transitive f g h =
     (level-transitive (f .entity) (g .entity) (h .entity) _ _ _
     (λ p q. lt-ltb (f .place) (h .place) (omega (arith, ltb-true (f .place) (g .place) p, ltb-true (g .place) (h .place) q)))))
 
-pub total-order : Total-order
+pub total-order : Total precedes
 total-order = record { one-of = one-of; not-both = not-both; not-itself = λ f p. not-both f f p p; transitive = transitive }

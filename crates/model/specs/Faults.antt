@@ -1,9 +1,10 @@
 -- Refusals and their layers by number, and which of two faults stands.
 use Prim.Native.Nat.{ℕ}
-use mathlib.Core.Path.{_≡_}
-use mathlib.Core.Bool.{Bool, true, false, cond}
-use mathlib.Core.Logic.{_⊎_}
+use mathlib.Core.Bool.{Bool, cond}
+use mathlib.Core.List.{List, [], _∷_}
 use lib.Dec.{eqb, ltb}
+use Rattle.std.specs.declared.option.Option.{Option}
+use Rattle.std.specs.declared.option.Option.the-variants.{Some, None}
 use Rattle.model.specs.declared.fault.Refusal.{Refusal}
 use Rattle.model.specs.declared.fault.Refusal.the-variants.{Malformed, Limit, IllFormedSchema, IllFormedTypeEnv, UnsupportedFeature, UnableToSymbolizeValue, NonConforming, Full, NotStored, IllTypedWalk}
 use Rattle.model.specs.declared.fault.Layer.{Layer}
@@ -56,9 +57,11 @@ precedes f g =
 abbrev pub stands : Fault → Fault → Fault
 stands f g = cond (precedes g f) g f
 
--- exactly one of less, same and greater holds of two faults, and less is transitive
-pub record Total-order : Type 0 where
-  pub one-of : (f g : Fault) → (precedes f g ≡ true) ⊎ ((f ≡ g) ⊎ (precedes g f ≡ true))
-  pub not-both : (f g : Fault) → precedes f g ≡ true → precedes g f ≡ true → ⊥
-  pub not-itself : (f : Fault) → precedes f f ≡ true → ⊥
-  pub transitive : (f g h : Fault) → precedes f g ≡ true → precedes g h ≡ true → precedes f h ≡ true
+-- of several faults the least stands
+abbrev pub stands-among : Fault → List Fault → Fault
+stands-among f [] = f
+stands-among f (g ∷ gs) = stands-among (stands f g) gs
+
+abbrev pub least : List Fault → Option Fault
+least [] = None
+least (f ∷ fs) = Some (stands-among f fs)

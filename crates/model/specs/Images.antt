@@ -1,18 +1,27 @@
 -- The image of a store: a header of four u32 (entities E, nodes V, offset of the place list, offset of the nodes),
 -- the place list of E u32, each the index of the first node of an entity's run, and V nodes of 24 bytes.
 -- Every fault of an image lies in the image layer, at the offset of a header field, list entry or node.
-use Prim.Native.Nat.{ℕ, _+_, _-_, _*_}
+use Prim.Native.Nat.{ℕ, zero, suc, _+_, _-_, _*_, _/_, _%_, min}
 use mathlib.Core.Bool.{Bool, cond, _||_, _&&_}
-use mathlib.Core.List.{List, [], _∷_}
+use mathlib.Core.List.{List, [], _∷_, _++_, map}
 use lib.Dec.{eqb, ltb, leb}
 use lib.ListN.{length}
+use mir.Syntax.{w64}
+use mir.Val.{ofZ}
+use Rattle.std.specs.Iters.{counting}
 use Rattle.model.specs.declared.fault.Refusal.the-variants.{Malformed, Limit}
 use Rattle.model.specs.declared.fault.Layer.the-variants.{Image}
 use Rattle.std.specs.declared.option.Option.{Option}
-use Rattle.std.specs.declared.option.Option.the-variants.{None}
-use Rattle.model.specs.Bytes.{within, u32-at}
+use Rattle.std.specs.declared.option.Option.the-variants.{Some, None}
+use Rattle.std.specs.declared.result.Result.the-variants.{Ok, Err}
+use Rattle.model.specs.declared.node.Node.{Node}
+use Rattle.model.specs.declared.fault.Fault.{Fault}
+use Rattle.model.specs.declared.fault.Refusal.{Refusal}
+use Rattle.model.specs.Bytes.{within, u32-at, node-at}
 use Rattle.model.specs.Checks.{Checked, require, then, each, in-turn}
-use Rattle.model.specs.Faults.{placed}
+use Rattle.model.specs.Faults.{placed, least}
+use Rattle.model.specs.Entities.{Entity, entity-run}
+use Rattle.model.specs.Stores.{runs, run-faults, entities-of}
 
 abbrev pub entity-count : List ℕ → ℕ
 entity-count bs = u32-at bs 0
@@ -84,3 +93,74 @@ body bs e v = in-turn (place-list bs e v ∷ nodes-there bs e v ∷ ends bs e v 
 -- the frame of an image: its header, and the place list and nodes that the header announces
 abbrev pub frame : List ℕ → Checked
 frame bs = then (header bs) (body bs (entity-count bs) (node-count bs))
+
+-- the node j of the image, where its bytes are there
+abbrev pub image-node : List ℕ → ℕ → Node
+image-node bs j = node-at bs (node-offset (entity-count bs) j)
+
+-- the nodes that are wholly there, of those that are announced, and the entries of the place list
+abbrev pub whole-nodes : List ℕ → ℕ
+whole-nodes bs = min (node-count bs) ((length bs - node-offset (entity-count bs) 0) / 24)
+
+abbrev pub image-nodes : List ℕ → List Node
+image-nodes bs = map (image-node bs) (counting 0 (whole-nodes bs))
+
+abbrev pub place-entries : List ℕ → List ℕ
+place-entries bs = map (first-node bs) (counting 0 (entity-count bs))
+
+-- a refusal at the node p, from 1, of the run k stands at that node's offset
+abbrev pub at-offset : List ℕ → ℕ → ℕ → Refusal → Fault
+at-offset bs k p r = placed r Image (node-offset (entity-count bs) (first-node bs k + p - 1))
+
+abbrev pub fault-of : Checked → List Fault
+fault-of (Ok u) = []
+fault-of (Err f) = f ∷ []
+
+-- the faults behind a whole place list: missing nodes, bytes left over, counts, and those of the runs
+abbrev pub node-faults : List ℕ → List Fault
+node-faults bs =
+    fault-of (nodes-there bs (entity-count bs) (node-count bs))
+    ++ (fault-of (ends bs (entity-count bs) (node-count bs))
+    ++ (fault-of (counts (entity-count bs) (node-count bs)) ++ run-faults (at-offset bs) 0 None (runs (image-nodes bs) (place-entries bs))))
+
+abbrev pub unless-broken : Checked → Option Fault → Option Fault
+unless-broken (Ok u) rest = rest
+unless-broken (Err f) rest = Some f
+
+-- what opening an image refuses: a broken header or place list, and else the least fault
+abbrev pub image-fault : List ℕ → Option Fault
+image-fault bs = unless-broken (then (header bs) (place-list bs (entity-count bs) (node-count bs))) (least (node-faults bs))
+
+-- the entities of an image
+abbrev pub image-entities : List ℕ → List Entity
+image-entities bs = entities-of (image-nodes bs) (place-entries bs)
+
+-- Writing
+
+-- the lowest n bytes of a number, the lowest first
+abbrev pub low-bytes : ℕ → ℕ → List ℕ
+low-bytes zero v = []
+low-bytes (suc n) v = v % 256 ∷ low-bytes n (v / 256)
+
+abbrev pub node-bytes : Node → List ℕ
+node-bytes n =
+    low-bytes 4 (n .kind) ++ (low-bytes 4 (n .field) ++ (low-bytes 4 (n .a) ++ (low-bytes 4 (n .b) ++ low-bytes 8 (ofZ w64 (n .number)))))
+
+abbrev pub joined : {X : Type 0} → (X → List ℕ) → List X → List ℕ
+joined f [] = []
+joined f (x ∷ xs) = f x ++ joined f xs
+
+abbrev pub entity-runs : List Entity → List Node
+entity-runs [] = []
+entity-runs (e ∷ es) = entity-run e ++ entity-runs es
+
+-- the index of the first node of each run, where the first of them begins at p
+abbrev pub first-nodes : ℕ → List Entity → List ℕ
+first-nodes p [] = []
+first-nodes p (e ∷ es) = p ∷ first-nodes (p + length (entity-run e)) es
+
+-- the image of a list of entities
+abbrev pub image-of : List Entity → List ℕ
+image-of es =
+    low-bytes 4 (length es) ++ (low-bytes 4 (length (entity-runs es)) ++ (low-bytes 4 16 ++ (low-bytes 4 (node-offset (length es) 0)
+    ++ (joined (low-bytes 4) (first-nodes 0 es) ++ joined node-bytes (entity-runs es)))))

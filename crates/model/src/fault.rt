@@ -1,5 +1,6 @@
 ghost use mathlib.Core.Path.{_≡_};
-ghost use Rattle.model.specs.Faults.{refusalNumber, layerNumber, wholeCall, placed, ofEntity, precedes as precedesOf, stands, Total-order};
+ghost use Rattle.model.specs.Orders.{Total};
+ghost use Rattle.model.specs.Faults.{refusalNumber, layerNumber, wholeCall, placed, ofEntity, precedes as precedesOf, stands};
 
 // What is refused. The numbers are those that a host sees; the Rust's names where it has one.
 #[derive(Clone, Copy, PartialEq, Eq)]
@@ -144,5 +145,5 @@ impl Fault {
 
 // The order of faults is total: exactly one of less, same and greater holds of two, and less is transitive.
 pub fn fault_order_stands()
-    ensures { λ _. ⌜ Total-order ⌝ }
+    ensures { λ _. ⌜ Total precedesOf ⌝ }
 {}

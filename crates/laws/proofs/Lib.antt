@@ -1,0 +1,16 @@
+mod EntityRuns
+mod Inserting
+mod Keys
+mod Numbers
+mod Parts
+mod ReadsEach
+mod ReadsOnly
+mod RequestRuns
+mod SlotTrees
+mod TermOrder
+mod TypeOrder
+mod TypeTrees
+mod ValueTrees
+mod Merging
+mod Served
+mod ExampleDay

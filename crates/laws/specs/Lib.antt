@@ -1,0 +1,6 @@
+pub mod HistoryLaws
+pub mod NeedLaws
+pub mod OrderLaws
+pub mod RunLaws
+pub mod Samples
+pub mod WorkedCases

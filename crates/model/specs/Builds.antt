@@ -1,0 +1,263 @@
+-- What a build refuses, and the room that an environment takes.
+use Prim.Native.Nat.{ℕ, _+_, _*_}
+use mathlib.Core.Bool.{Bool, true, false, cond, not, _&&_, _||_}
+use mathlib.Core.List.{List, [], _∷_, _++_, map}
+use lib.Dec.{eqb, ltb, leb}
+use lib.ListN.{length}
+use Rattle.std.specs.Options.{isSome}
+use Rattle.std.specs.declared.option.Option.{Option}
+use Rattle.std.specs.declared.option.Option.the-variants.{Some, None}
+use Rattle.std.specs.declared.result.Result.{Result}
+use Rattle.std.specs.declared.result.Result.the-variants.{Ok, Err}
+use Rattle.model.specs.declared.node.Node.{Node}
+use Rattle.model.specs.declared.fault.Fault.{Fault}
+use Rattle.model.specs.declared.fault.Refusal.the-variants.{Limit, IllFormedTypeEnv, UnsupportedFeature, UnableToSymbolizeValue, NonConforming, Full}
+use Rattle.model.specs.declared.fault.Layer.the-variants.{Schema as schema-layer, Request as request-layer, Entity as entity-layer}
+use Rattle.model.specs.Faults.{placed, wholeCall, ofEntity}
+use Rattle.model.specs.Options.{or-else, any, mapped, unless, filter}
+use Rattle.model.specs.Slots.{Uid}
+use Rattle.model.specs.Reading.{Refused}
+use Rattle.model.specs.Values as value
+use Rattle.model.specs.Values.{Value, Values}
+use Rattle.model.specs.Types.{Ty}
+use Rattle.model.specs.Terms.{Term, TermTy, size}
+use Rattle.model.specs.Symbolize.{term-type, symbolize, untaken, without-rule, first-among, need, default-literal}
+use Rattle.model.specs.Entities.{Entity, Request, read-request}
+use Rattle.model.specs.Schemas.{Schema, Body, standard, enum, TypeRow, ActionRow, RequestType, same-uid, first-row, no-name, no-uid, type-row, is-standard, action-types, least-member, ancestor-types}
+use Rattle.model.specs.Environments.{SymEnv, context-type, or-empty, of-env, from-concrete-env, attributes-term, ancestors-term, tag-keys-term, uids-of-type}
+use Rattle.model.specs.Conforms.{tags-place, entity-breaks, request-breaks}
+
+-- the memory that a host gives: records of the pool, entries for the keys of functions, and for tags
+pub record Sizes : Type 0 where
+  pub records : ℕ
+  pub functions : ℕ
+  pub tags : ℕ
+
+abbrev pub when : {X : Type 0} → Bool → X → Option X
+when b x = cond b (Some x) None
+
+-- 2, about the whole call: a pool over 1,048,576 records, or a name out of range in the request type
+abbrev pub large-build : Sizes → RequestType → Bool
+large-build m q = ltb 1048576 (m .records) || (no-name (q .principal) || (no-uid (q .action) || no-name (q .resource)))
+
+-- 6: the first row with a type that `of_type` does not take, types in order and then the request type's action
+abbrev pub not-taken : Ty → Bool
+not-taken t = isSome (untaken 1 t)
+
+abbrev pub optional-not-taken : Option Ty → Bool
+optional-not-taken None = false
+optional-not-taken (Some t) = not-taken t
+
+abbrev pub body-not-taken : Body Ty → Bool
+body-not-taken (standard ds attributes tags) = not-taken attributes || optional-not-taken tags
+body-not-taken (enum ms) = false
+
+abbrev pub untaken-row : Schema → RequestType → Option ℕ
+untaken-row s q =
+    or-else (first-row (λ before r. body-not-taken (r .body)) [] 1 (s .types))
+    (first-row (λ before r. same-uid (r .uid) (q .action) && optional-not-taken (r .context)) [] (length (s .types) + 1) (s .actions))
+
+-- 4 and 6: what the schema and the request type alone refuse
+abbrev pub type-fault : Schema → RequestType → Option Fault
+type-fault s q =
+    or-else (when (not (isSome (context-type s q))) (wholeCall IllFormedTypeEnv request-layer))
+    (mapped (λ row. placed UnsupportedFeature schema-layer row) (untaken-row s q))
+
+-- 9: the first node without a rule in an entity of a standard type, in its attributes and then in its tags
+abbrev pub tags-without-rule : Option Ty → Entity → Option ℕ
+tags-without-rule None e = None
+tags-without-rule (Some t) e = first-among (without-rule t) (tags-place e) (e .tags)
+
+abbrev pub entity-without-rule-in : Entity → Option (Body Ty) → Option ℕ
+entity-without-rule-in e None = None
+entity-without-rule-in e (Some (standard ds attributes tags)) =
+    or-else (without-rule attributes 2 (value.rec (e .attributes))) (tags-without-rule tags e)
+entity-without-rule-in e (Some (enum ms)) = None
+
+abbrev pub entity-without-rule : Schema → Entity → Option ℕ
+entity-without-rule s e = entity-without-rule-in e (type-row s (e .uid .0))
+
+-- the first entity of a list, from the place i on, in which a search finds a node
+abbrev pub first-entity : (Entity → Option ℕ) → ℕ → List Entity → Option (ℕ × ℕ)
+first-entity f i [] = None
+first-entity f i (e ∷ es) = or-else (mapped (λ p. (i, p)) (f e)) (first-entity f (i + 1) es)
+
+abbrev pub rule-fault : Schema → RequestType → Request → List Entity → Option Fault
+rule-fault s q r es =
+    or-else (mapped (λ p. placed UnableToSymbolizeValue request-layer p) (without-rule (or-empty (context-type s q)) 4 (value.rec (r .context))))
+    (mapped (λ x. ofEntity UnableToSymbolizeValue (x .0) (x .1)) (first-entity (entity-without-rule s) 0 es))
+
+-- 10: the check of the request, and then of every entity
+abbrev pub check-fault : Schema → RequestType → Request → List Entity → Option Fault
+check-fault s q r es =
+    or-else (mapped (λ p. placed NonConforming request-layer p) (request-breaks s q (or-empty (context-type s q)) r))
+    (mapped (λ x. ofEntity NonConforming (x .0) (x .1)) (first-entity (entity-breaks s) 0 es))
+
+-- what a term costs: what it needs before equal elements merge, and the records that it takes
+pub record Cost : Type 0 where
+  pub needs : ℕ
+  pub takes : ℕ
+
+abbrev pub cost-of : Term → Cost
+cost-of t = record { needs = size t; takes = size t }
+
+abbrev pub value-cost : Ty → Value → Cost
+value-cost t v = record { needs = need t v; takes = size (symbolize t v) }
+
+abbrev pub one : Cost
+one = record { needs = 1; takes = 1 }
+
+abbrev pub costs : {X : Type 0} → (X → List Cost) → List X → List Cost
+costs f [] = []
+costs f (x ∷ xs) = f x ++ costs f xs
+
+-- the default of each defined function of a type: attributes, each ancestor type, tag keys and tag values
+abbrev pub default-cost : Schema → Ty → Cost
+default-cost s t = cost-of (default-literal (least-member s) (term-type t))
+
+abbrev pub tag-defaults : Schema → Option Ty → List Cost
+tag-defaults s None = []
+tag-defaults s (Some t) = one ∷ (default-cost s t ∷ [])
+
+abbrev pub body-defaults : Schema → ℕ → Body Ty → List Cost
+body-defaults s n (standard ds attributes tags) = default-cost s attributes ∷ (map (λ m. one) (ancestor-types s n) ++ tag-defaults s tags)
+body-defaults s n (enum ms) = one ∷ []
+
+-- of an action type the attributes and each action type as ancestor type
+abbrev pub action-defaults : Schema → List Cost
+action-defaults s = costs (λ n. one ∷ map (λ m. one) (action-types s)) (action-types s)
+
+-- the ancestors of each action, for each action type
+abbrev pub action-costs : Schema → List Cost
+action-costs s = costs (λ r. map (λ n. cost-of (uids-of-type n (r .ancestors))) (action-types s)) (s .actions)
+
+-- the terms of an entity of a standard type: attributes, ancestors of each ancestor type, tag keys, tag values in order
+abbrev pub tag-costs : Ty → Values → List Cost
+tag-costs t value.none = []
+tag-costs t (value.more name of rest) = value-cost t of ∷ tag-costs t rest
+
+abbrev pub all-tag-costs : Option Ty → Entity → List Cost
+all-tag-costs None e = []
+all-tag-costs (Some t) e = cost-of (tag-keys-term e) ∷ tag-costs t (e .tags)
+
+abbrev pub entity-costs-in : Schema → Entity → Option (Body Ty) → List Cost
+entity-costs-in s e None = []
+entity-costs-in s e (Some (standard ds attributes tags)) =
+    value-cost attributes (value.rec (e .attributes)) ∷ (map (λ n. cost-of (ancestors-term n e)) (ancestor-types s (e .uid .0)) ++ all-tag-costs tags e)
+entity-costs-in s e (Some (enum ms)) = []
+
+abbrev pub entity-costs : Schema → Entity → List Cost
+entity-costs s e = entity-costs-in s e (type-row s (e .uid .0))
+
+-- the terms of `of_env`: the request, the defaults of enum types and of action types, the action tables
+abbrev pub symbol-defaults : Body Ty → List Cost
+symbol-defaults (standard ds attributes tags) = []
+symbol-defaults (enum ms) = one ∷ []
+
+abbrev pub symbol-costs : Schema → List Cost
+symbol-costs s =
+    one ∷ (one ∷ (one ∷ (one ∷ (costs (λ r. symbol-defaults (r .body)) (s .types) ++ (action-defaults s ++ action-costs s)))))
+
+-- the terms of `from_concrete_env` in the order of the build: principal, action, resource, context, defaults,
+-- action tables, and then each entity of a standard type in its order
+abbrev pub request-costs : Schema → RequestType → Request → List Cost
+request-costs s q r = one ∷ (one ∷ (one ∷ (value-cost (or-empty (context-type s q)) (value.rec (r .context)) ∷ [])))
+
+abbrev pub fixed-costs : Schema → RequestType → Request → List Cost
+fixed-costs s q r =
+    request-costs s q r ++ (costs (λ r′. body-defaults s (r′ .name) (r′ .body)) (s .types) ++ (action-defaults s ++ action-costs s))
+
+abbrev pub build-costs : Schema → RequestType → Request → List Entity → List Cost
+build-costs s q r es = fixed-costs s q r ++ costs (entity-costs s) es
+
+-- the records that some terms take, and that they need
+abbrev pub taken : List Cost → ℕ
+taken [] = 0
+taken (c ∷ cs) = c .takes + taken cs
+
+abbrev pub needed : List Cost → ℕ
+needed [] = 0
+needed (c ∷ cs) = c .needs + needed cs
+
+-- whether a term passes the pool, where `used` records are in use before it, or needs over 4,096
+abbrev pub passes-pool : ℕ → ℕ → List Cost → Bool
+passes-pool pool used [] = false
+passes-pool pool used (c ∷ cs) = (ltb pool (used + c .needs) || ltb 4096 (c .needs)) || passes-pool pool (used + c .takes) cs
+
+-- the keys of an entity in the tables of functions, and in those of tag values
+abbrev pub tag-key : Option Ty → ℕ
+tag-key None = 0
+tag-key (Some t) = 1
+
+abbrev pub function-keys-in : Schema → ℕ → Option (Body Ty) → ℕ
+function-keys-in s n None = 0
+function-keys-in s n (Some (standard ds attributes tags)) = 1 + length (ancestor-types s n) + tag-key tags
+function-keys-in s n (Some (enum ms)) = 0
+
+abbrev pub function-keys : Schema → Entity → ℕ
+function-keys s e = function-keys-in s (e .uid .0) (type-row s (e .uid .0))
+
+abbrev pub tag-keys-in : Entity → Option (Body Ty) → ℕ
+tag-keys-in e None = 0
+tag-keys-in e (Some (standard ds attributes None)) = 0
+tag-keys-in e (Some (standard ds attributes (Some t))) = value.count (e .tags)
+tag-keys-in e (Some (enum ms)) = 0
+
+abbrev pub tag-keys : Schema → Entity → ℕ
+tag-keys s e = tag-keys-in e (type-row s (e .uid .0))
+
+abbrev pub total : {X : Type 0} → (X → ℕ) → List X → ℕ
+total f [] = 0
+total f (x ∷ xs) = f x + total f xs
+
+-- for each action a key for each action type
+abbrev pub action-keys : Schema → ℕ
+action-keys s = length (s .actions) * length (action-types s)
+
+abbrev pub all-function-keys : Schema → List Entity → ℕ
+all-function-keys s es = action-keys s + total (function-keys s) es
+
+abbrev pub all-tag-keys : Schema → List Entity → ℕ
+all-tag-keys s es = total (tag-keys s) es
+
+-- 11: the pool or the entries have no room
+abbrev pub full : Fault
+full = wholeCall Full entity-layer
+
+abbrev pub build-full : Sizes → Schema → RequestType → Request → List Entity → Bool
+build-full m s q r es =
+    passes-pool (m .records) 0 (build-costs s q r es) || (ltb (m .functions) (all-function-keys s es) || ltb (m .tags) (all-tag-keys s es))
+
+abbrev pub symbol-full : Sizes → Schema → Bool
+symbol-full m s = passes-pool (m .records) 0 (symbol-costs s) || ltb (m .functions) (action-keys s)
+
+abbrev pub limit : Fault
+limit = wholeCall Limit entity-layer
+
+-- what `of_env` refuses
+abbrev pub of-env-fault : Sizes → Schema → RequestType → Option Fault
+of-env-fault m s q = or-else (when (large-build m q) limit) (or-else (type-fault s q) (when (symbol-full m s) full))
+
+-- the environment of `of_env`, or its refusal
+abbrev pub built-symbols : Sizes → Schema → RequestType → Result SymEnv Fault
+built-symbols m s q = unless (of-env-fault m s q) (of-env s q)
+
+-- what a build refuses of a request that can be read, where the load buffer has `buffer` nodes; `checked` in `make`
+abbrev pub read-fault : Sizes → ℕ → Bool → Schema → RequestType → Request → List Entity → Option Fault
+read-fault m buffer checked s q r es =
+    or-else (when (large-build m q || ltb buffer 4096) limit)
+    (or-else (type-fault s q)
+    (or-else (rule-fault s q r es)
+    (or-else (cond checked (check-fault s q r es) None) (when (build-full m s q r es) full))))
+
+abbrev pub in-request : Refused → Fault
+in-request e = placed (e .0) request-layer (e .1)
+
+abbrev pub with-request : {X : Type 0} → Result Request Refused → (Request → Result X Fault) → Result X Fault
+with-request (Ok r) f = f r
+with-request (Err e) f = Err (in-request e)
+
+-- the environment that `from_concrete_env` builds of the run of a request, or its refusal; `make` checks as well
+abbrev pub built : Sizes → ℕ → Bool → Schema → RequestType → List Node → List Entity → Result SymEnv Fault
+built m buffer checked s q run es =
+    with-request (read-request run) (λ r. unless (read-fault m buffer checked s q r es) (from-concrete-env s q r es))
