@@ -5,6 +5,9 @@ use Rattle.std.specs.Orderings.{reversed}
 use Rattle.std.specs.declared.cmp.Ordering.{Ordering}
 use Rattle.std.specs.declared.cmp.Ordering.the-variants.{Less, Equal, Greater}
 use Rattle.model.specs.Terms.{Term, Terms, no-terms, term, order, insert-by, insert, inserted}
+use Rattle.model.specs.Orders.{by-number}
+use Rattle.model.specs.Environments.{by-uid, by-function-key, by-tag-key}
+use Rattle.laws.proofs.KeyOrders.{names-lawful, uids-lawful, function-keys-lawful, tag-keys-lawful, uid-order}
 use Rattle.laws.specs.OrderLaws.{Among, Above, Ascends, Order-laws}
 use Rattle.laws.proofs.Numbers.{total}
 use Rattle.laws.proofs.TypeOrder.{types-total}
@@ -74,6 +77,11 @@ inserted-only s (term m t ts) us h =
 -- all that is stated of the orders
 pub order-laws : Order-laws
 order-laws = record {
+  names = total by-number names-lawful;
+  uids = total by-uid uids-lawful;
+  function-keys = total by-function-key function-keys-lawful;
+  tag-keys = total by-tag-key tag-keys-lawful;
+  uid-order = uid-order;
   types = types-total;
   terms = total order terms-lawful;
   ascends = λ ts. inserted-ascends ts no-terms tt;

@@ -66,7 +66,7 @@ total {X} c l = record { one-of = one-of; not-both = not-both; not-itself = λ x
         ap isLt f
 
 -- the three laws go through `thenBy`; this is the first
-then-turned : (a b a′ b′ : Ordering) → a′ ≡ reversed a → b′ ≡ reversed b → thenBy a′ b′ ≡ reversed (thenBy a b)
+pub then-turned : (a b a′ b′ : Ordering) → a′ ≡ reversed a → b′ ≡ reversed b → thenBy a′ b′ ≡ reversed (thenBy a b)
 then-turned Less b a′ b′ e f = ap (λ x. thenBy x b′) e
 then-turned Equal b a′ b′ e f = ap (λ x. thenBy x b′) e ∙ f
 then-turned Greater b a′ b′ e f = ap (λ x. thenBy x b′) e
@@ -93,7 +93,7 @@ any-greater Less = tt
 any-greater Equal = refl
 any-greater Greater = tt
 
-then-follows : (a b c a′ b′ c′ : Ordering) → Follows a b c → Follows a′ b′ c′ → Follows (thenBy a a′) (thenBy b b′) (thenBy c c′)
+pub then-follows : (a b c a′ b′ c′ : Ordering) → Follows a b c → Follows a′ b′ c′ → Follows (thenBy a a′) (thenBy b b′) (thenBy c c′)
 then-follows Less Less c a′ b′ c′ f g = ap (λ x. thenBy x c′) f
 then-follows Less Equal c a′ b′ c′ f g = subst (λ x. Follows Less b′ (thenBy x c′)) (sym f) (less-any b′)
 then-follows Less Greater c a′ b′ c′ f g = tt
@@ -111,13 +111,13 @@ follows-from Equal b c f g h = h refl
 follows-from Greater b c f g h = tt
 
 -- the laws of numbers
-number-turned : (m n : ℕ) → by-number n m ≡ reversed (by-number m n)
+pub number-turned : (m n : ℕ) → by-number n m ≡ reversed (by-number m n)
 number-turned m n = grind (arith, tells)
 
 pub number-same : (m n : ℕ) → by-number m n ≡ Equal → m ≡ n
 number-same m n e = grind (arith, tells)
 
-number-follows : (a b c : ℕ) → Follows (by-number a b) (by-number b c) (by-number a c)
+pub number-follows : (a b c : ℕ) → Follows (by-number a b) (by-number b c) (by-number a c)
 number-follows a b c = follows-from (by-number a b) (by-number b c) (by-number a c) (λ x y. grind (arith, tells)) (λ x y. grind (arith, tells)) (λ x. grind (arith, tells))
 
 -- the laws of signed numbers

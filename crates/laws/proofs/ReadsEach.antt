@@ -13,7 +13,8 @@ use Rattle.std.specs.declared.result.Result.the-variants.{Ok, Err}
 use Rattle.model.specs.declared.node.Node.{Node}
 use Rattle.model.specs.declared.fault.Refusal.the-variants.{Malformed, Limit}
 use Rattle.model.specs.Trees.{Tree, tree, Trees, none, more, root, run-of, runs-of, count, size, sizes, nesting, nestings}
-use Rattle.model.specs.Slots.{Slot, next}
+use Rattle.model.specs.declared.slot.Slot.{Slot}
+use Rattle.model.specs.Slots.{next}
 use Rattle.model.specs.Layouts.{Layout}
 use Rattle.model.specs.Reading.{Rest, Read, Refused, and-then, note, read-node, read-tree, read-trees, read-run, whole}
 use Rattle.model.specs.Formed.{Formed, fits, all-fit, keeps, all-keep}

@@ -21,11 +21,12 @@ use Rattle.model.specs.Terms.{TermTy, Term}
 use Rattle.model.specs.Entities.{Entity, Request, read-entity, read-request, head-uid}
 use Rattle.model.specs.Schemas.{Schema, RequestType}
 use Rattle.model.specs.Environments.{SymEnv, from-concrete-env}
-use Rattle.model.specs.Builds.{built, with-request, read-fault, when, limit}
+use Rattle.model.specs.Builds.{built, terms-of, with-request, read-fault, when, limit}
 use Rattle.model.specs.Walks.{Root, Step, Found, foretold, walk-in, walk-fault, ill-typed, large-step}
-use Rattle.model.specs.Live.{Setting, afresh, Call, put, remove, walk, Answer, accepted, refused, gives, absent, by-fault, walk-answer, put-read, unless-refused, put-fault, put-fault-of, one-too-many, remove-fault, without-uid, answer, after}
+use Rattle.model.specs.Live.{Setting, afresh, parts, Call, put, remove, walk, Answer, accepted, refused, gives, absent, by-fault, walk-answer, put-read, unless-refused, put-fault, put-fault-of, one-too-many, present, remove-fault, without-uid, answer, after}
 use Rattle.model.specs.Histories.{Serves, puts, put-refused, removes, remove-refused, walks, misses, walk-refused, Goes, ends, goes, Making, setting, Outcome, make-refused, lived, History, refused-make, made}
 use Rattle.laws.specs.HistoryLaws.{Histories-determined}
+use Rattle.laws.proofs.Searches.{or-else-none, mapped-none}
 
 -- a call that is served has the answer and leaves the list that are defined
 only : (g : Setting) (es ds : List Entity) (c : Call) (a : Answer) → Serves g es c a ds → (a ≡ answer g es c) × (ds ≡ after g es c)
@@ -37,15 +38,7 @@ only g _ _ _ _ (walks h f w) = (cc, refl)
 only g _ _ _ _ (misses h f w) = (cc, refl)
 only g _ _ _ _ (walk-refused h) = (cc, refl)
 
--- nothing found by a search is nothing found by its parts
-or-none : {X : Type 0} (a b : Option X) → or-else a b ≡ None → (a ≡ None) × (b ≡ None)
-or-none None b h = (refl, h)
-or-none (Some x) b h = let z : _≡_ {A = ℕ} 0 1 = cc in absurd (omega arith)
-
-mapped-none : {X Y : Type 0} (f : X → Y) (a : Option X) → mapped f a ≡ None → a ≡ None
-mapped-none f None h = refl
-mapped-none f (Some x) h = let z : _≡_ {A = ℕ} 0 1 = cc in absurd (omega arith)
-
+-- a run that cannot be read is refused in either case
 refused-anyway : (b c : Bool) (f l : Fault) → cond b (Some f) (or-else (when c l) (Some f)) ≡ None → ⊥
 refused-anyway true c f l h = let z : _≡_ {A = ℕ} 0 1 = cc in omega arith
 refused-anyway false true f l h = let z : _≡_ {A = ℕ} 0 1 = cc in omega arith
@@ -63,8 +56,8 @@ typed (Err k) h = let z : _≡_ {A = ℕ} 0 1 = cc in absurd (omega arith)
 
 walk-typed : (s : Schema) (q : RequestType) (root : Root) (steps : List Step) (types terms : ℕ) → walk-fault s q types terms root steps ≡ None → (a : TermTy) × (foretold s q root steps ≡ Ok a)
 walk-typed s q root steps types terms h =
-    let p = or-none (when (cond (ltb types 4096) true (ltb terms 4096)) (wholeCall Limit walk-layer)) _ h in
-    let r = or-none (mapped (λ k. placed Limit walk-layer k) (large-step steps 1)) _ (p .1) in
+    let p = or-else-none (when (cond (ltb types 4096) true (ltb terms 4096)) (wholeCall Limit walk-layer)) _ h in
+    let r = or-else-none (mapped (λ k. placed Limit walk-layer k) (large-step steps 1)) _ (p .1) in
     typed (foretold s q root steps) (mapped-none (λ k. placed IllTypedWalk walk-layer k) _ (r .1))
 
 -- every call is served, with the answer and the list that are defined
@@ -111,6 +104,12 @@ served-once g es (c ∷ cs) _ _ ds fs (goes {ds = d1} {a = a1} {as′ = l1} s1 r
     let l : l1 ≡ l2 = r .0 in
     (cc, r .1)
 
+-- the list that calls leave is the present list
+leaves-present : (g : Setting) (es : List Entity) (cs : List Call) (as′ : List Answer) (ds : List Entity) → Goes g es cs as′ ds → ds ≡ present g es cs
+leaves-present g es [] _ _ ends = refl
+leaves-present g es (c ∷ cs) _ ds (goes {ds = d} {a = a} {as′ = l} s r) =
+    leaves-present g d cs l ds r ∙ ap (λ x. present g x cs) (only g es d c a s .1)
+
 -- a make that is accepted has read its request
 built-reads : {X : Type 0} (x : Result Request Refused) (f : Request → Result X Fault) (e : X) → with-request x f ≡ Ok e → (r : Request) × (x ≡ Ok r)
 built-reads (Ok r) f e h = (r, refl)
@@ -125,9 +124,9 @@ module _ (m : Making) (es : List Entity) (cs : List Call) where
   outcome (Ok e) h =
       let p = built-reads (read-request (m .request-run)) (λ r. unless (read-fault (m .sizes) (m .buffer) true (m .schema) (m .request-type) r es) (from-concrete-env (m .schema) (m .request-type) r es)) e h in
       let q = all-served (setting m (p .0)) es cs in
-      (lived (q .0 .0) (q .0 .1) (afresh (setting m (p .0)) (q .0 .1)), made h (p .1) (q .1))
+      (lived (q .0 .0) (q .0 .1) (afresh (setting m (p .0)) (q .0 .1)) (terms-of (parts (setting m (p .0)) (q .0 .1))), made h (p .1) (q .1))
 
-  same-life : (r1 r2 : Request) (l1 l2 : List Answer) (d1 d2 : List Entity) → r1 ≡ r2 → Goes (setting m r1) es cs l1 d1 → Goes (setting m r2) es cs l2 d2 → lived l1 d1 (afresh (setting m r1) d1) ≡ lived l2 d2 (afresh (setting m r2) d2)
+  same-life : (r1 r2 : Request) (l1 l2 : List Answer) (d1 d2 : List Entity) → r1 ≡ r2 → Goes (setting m r1) es cs l1 d1 → Goes (setting m r2) es cs l2 d2 → lived l1 d1 (afresh (setting m r1) d1) (terms-of (parts (setting m r1) d1)) ≡ lived l2 d2 (afresh (setting m r2) d2) (terms-of (parts (setting m r2) d2))
   same-life r1 r2 l1 l2 d1 d2 e g1 g2 =
       let p = served-once (setting m r2) es cs l1 l2 d1 d2 (subst (λ r. Goes (setting m r) es cs l1 d1) e g1) g2 in
       let a : l1 ≡ l2 = p .0 in
@@ -141,4 +140,4 @@ module _ (m : Making) (es : List Entity) (cs : List Call) where
   one-outcome _ _ (made {r = q1} h1 r1 g1) (made {r = q2} h2 r2 g2) = let e : q1 ≡ q2 = cc in same-life _ _ _ _ _ _ e g1 g2
 
 pub histories-determined : Histories-determined
-histories-determined = record { serves = serves; only = only; some = λ m es cs. outcome m es cs _ refl; one = one-outcome }
+histories-determined = record { serves = serves; only = only; leaves = leaves-present; some = λ m es cs. outcome m es cs _ refl; one = one-outcome }

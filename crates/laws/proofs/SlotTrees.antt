@@ -12,7 +12,9 @@ use Rattle.std.proofs.shelf.Tests.{eqb-true, and-parts}
 use Rattle.std.proofs.shelf.Ways.{tells}
 use Rattle.model.specs.declared.node.Node.{Node}
 use Rattle.model.specs.Trees.{Tree, tree, Trees, none, more, runs-of, count, nestings}
-use Rattle.model.specs.Slots.{Slot, Uid, a-record, a-uid, ancestor, fills}
+use Rattle.model.specs.declared.slot.Slot.{Slot}
+use Rattle.model.specs.declared.slot.Slot.the-variants.{ARecord, AUid, Ancestor}
+use Rattle.model.specs.Slots.{Uid, fills}
 use Rattle.model.specs.Layouts.{values, value-node, value-arity}
 use Rattle.model.specs.Formed.{fits, all-fit}
 use Rattle.model.specs.Values.{rec, uid-node, tree-of, prim, prim-of, grouped, value-of, values-of, fields-of}
@@ -21,12 +23,12 @@ use Rattle.laws.proofs.Parts.{same-node, zero-is, none-is}
 use Rattle.laws.proofs.ValueTrees.{value-forth}
 
 -- a record is that of its fields
-pub record-forth : (t : Tree) → fits values a-record t ≡ true → tree-of 0 (rec (fields-of (value-of t))) ≡ t
+pub record-forth : (t : Tree) → fits values ARecord t ≡ true → tree-of 0 (rec (fields-of (value-of t))) ≡ t
 record-forth (tree n ts) e =
-    let p = and-parts (values .takes a-record n) _ e in
+    let p = and-parts (values .takes ARecord n) _ e in
     let q = and-parts (eqb (n .field) 0) (eqb (n .kind) 6) (and-parts _ (value-node n) (p .0) .0) in
     let is : rec (fields-of (value-of (tree n ts))) ≡ value-of (tree n ts) = subst (λ k. rec (fields-of (grouped k (values-of ts) (prim (prim-of n)))) ≡ grouped k (values-of ts) (prim (prim-of n))) (sym (eqb-true _ _ (q .1))) refl in
-    (λ i. tree-of (sym (eqb-true _ _ (q .0)) i) (is i)) ∙ value-forth a-record (tree n ts) e
+    (λ i. tree-of (sym (eqb-true _ _ (q .0)) i) (is i)) ∙ value-forth ARecord (tree n ts) e
 
 -- a slot that asks for a uid that is no field has its tree
 uid-forth : (s : Slot) → ((n : Node) → fills s (eqb (n .kind) 6) (eqb (n .kind) 4) n ≡ true → (n .field ≡ 0) × (n .kind ≡ 4)) → (t : Tree) → fits values s t ≡ true → tree (uid-node (uid-of t)) none ≡ t
@@ -40,15 +42,15 @@ uid-forth s asks (tree n ts) e =
     sym (λ i. tree (same-node n (uid-node (n .a, n .b)) k f refl refl (zero-is (n .number) (grind (arith, tells))) i) (none-is ts (grind (arith, tells)) i))
 
 -- a uid's tree is that of its uid
-pub a-uid-forth : (t : Tree) → fits values a-uid t ≡ true → tree (uid-node (uid-of t)) none ≡ t
-a-uid-forth = uid-forth a-uid (λ n h. (grind (arith, tells), grind (arith, tells)))
+pub a-uid-forth : (t : Tree) → fits values AUid t ≡ true → tree (uid-node (uid-of t)) none ≡ t
+a-uid-forth = uid-forth AUid (λ n h. (grind (arith, tells), grind (arith, tells)))
 
 -- the trees of ancestors are those of their uids
-pub ancestors-forth : (ts : Trees) (before : Option Uid) → all-fit values (ancestor before) ts ≡ true → uid-trees (uids-of ts) ≡ ts
+pub ancestors-forth : (ts : Trees) (before : Option Uid) → all-fit values (Ancestor before) ts ≡ true → uid-trees (uids-of ts) ≡ ts
 ancestors-forth none before e = refl
 ancestors-forth (more t ts) before e =
-    let p = and-parts (fits values (ancestor before) t) _ e in
-    λ i. more (uid-forth (ancestor before) (λ n h. (grind (arith, tells), grind (arith, tells))) t (p .0) i) (ancestors-forth ts (Some (uid-of t)) (p .1) i)
+    let p = and-parts (fits values (Ancestor before) t) _ e in
+    λ i. more (uid-forth (Ancestor before) (λ n h. (grind (arith, tells), grind (arith, tells))) t (p .0) i) (ancestors-forth ts (Some (uid-of t)) (p .1) i)
 
 -- the run of the trees of uids
 pub uids-run : (us : List Uid) → map uid-node us ≡ runs-of (uid-trees us)

@@ -12,7 +12,9 @@ use Rattle.std.proofs.shelf.Ways.{tells}
 use Rattle.model.specs.declared.node.Node.{Node}
 use Rattle.model.specs.Trees as trees
 use Rattle.model.specs.Trees.{Tree, tree, Trees, root}
-use Rattle.model.specs.Slots.{Slot, plain, named, next, is-named}
+use Rattle.model.specs.declared.slot.Slot.{Slot}
+use Rattle.model.specs.declared.slot.Slot.the-variants.{Plain, Named}
+use Rattle.model.specs.Slots.{next, is-named}
 use Rattle.model.specs.Layouts as layout
 use Rattle.model.specs.Layouts.{types, type-arity, type-number, signed-below, is-zero}
 use Rattle.model.specs.Formed.{fits, all-fit}
@@ -94,10 +96,10 @@ count-is trees.none = refl
 count-is (trees.more t ts) = ap suc (count-is ts)
 
 -- the one child of a set, which is no field
-element-forth : (ts : Trees) → trees.count ts ≡ 1 → all-fit types plain ts ≡ true → trees-of (types-of ts) ≡ ts → trees.more (tree-of 0 false (first-type (types-of ts))) trees.none ≡ ts
+element-forth : (ts : Trees) → trees.count ts ≡ 1 → all-fit types Plain ts ≡ true → trees-of (types-of ts) ≡ ts → trees.more (tree-of 0 false (first-type (types-of ts))) trees.none ≡ ts
 element-forth trees.none c e ih = absurd (omega arith)
 element-forth (trees.more (tree n us) trees.none) c e ih =
-    let p = and-parts (types .takes plain n) _ (and-parts (fits types plain (tree n us)) _ e .0) .0 in
+    let p = and-parts (types .takes Plain n) _ (and-parts (fits types Plain (tree n us)) _ e .0) .0 in
     let q = and-parts (eqb (n .field) 0) _ p in
     let z = zero-is (n .number) (and-parts (layout.type-node n) _ (q .1) .1) in
     (λ i. trees.more (tree-of (sym (eqb-true (n .field) 0 (q .0)) i) (is-one (sym z i)) (type-of (tree n us))) trees.none) ∙ ih
@@ -111,7 +113,7 @@ node-forth s n ts e m c a ih =
     let z = mark-is s n m in
     let head : (k p : ℕ) → n .kind ≡ k → n .a ≡ p → type-node k p (n .field) (is-one (n .number)) ≡ n = λ k p i j. sym (same-node n _ i refl j b z) in
     cond-both (eqb (n .kind) 10) _ _ P
-    (λ h. (λ i. tree (head 10 0 (eqb-true _ _ h) (grind (arith, tells)) i) (element-forth ts (grind (arith, tells)) (subst (λ x. all-fit types x ts ≡ true) (cond-true (eqb (n .kind) 10) plain (named None) h) a) ih i)))
+    (λ h. (λ i. tree (head 10 0 (eqb-true _ _ h) (grind (arith, tells)) i) (element-forth ts (grind (arith, tells)) (subst (λ x. all-fit types x ts ≡ true) (cond-true (eqb (n .kind) 10) Plain (Named None) h) a) ih i)))
     (λ e10. cond-both (eqb (n .kind) 12) _ _ P
     (λ h. (λ i. tree (head 12 (count (types-of ts)) (eqb-true _ _ h) (grind (arith, tells, count-is ts)) i) (ih i)))
     (λ e12. cond-both (eqb (n .kind) 13) _ _ P

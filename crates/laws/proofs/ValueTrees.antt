@@ -11,7 +11,8 @@ use Rattle.model.specs.declared.node.Node.{Node}
 use Rattle.model.specs.Nodes.{plain, under}
 use Rattle.model.specs.Trees as trees
 use Rattle.model.specs.Trees.{Tree, tree, Trees, root}
-use Rattle.model.specs.Slots.{Slot, next}
+use Rattle.model.specs.declared.slot.Slot.{Slot}
+use Rattle.model.specs.Slots.{next}
 use Rattle.model.specs.Layouts.{values, value-arity, value-node, extension-node, is-zero}
 use Rattle.model.specs.Formed.{fits, all-fit}
 use Rattle.model.specs.Values.{Ext, decimal, ipaddr, datetime, duration, bool, long, string, uid, ext, Value, Values, prim, set, rec, none, more, count, prefix-part, ext-node, prim-node, tree-of, trees-of, prefix-of, ext-of, prim-of, value-of, values-of}

@@ -6,7 +6,7 @@ use mathlib.Core.List.{List}
 use Rattle.std.specs.declared.result.Result.the-variants.{Ok}
 use Rattle.model.specs.declared.node.Node.{Node}
 use Rattle.model.specs.Trees.{Tree, root, run-of}
-use Rattle.model.specs.Slots.{Slot}
+use Rattle.model.specs.declared.slot.Slot.{Slot}
 use Rattle.model.specs.Layouts.{Layout, values, types}
 use Rattle.model.specs.Reading.{read-run}
 use Rattle.model.specs.Formed.{Formed, fits}

@@ -20,10 +20,10 @@ use Rattle.model.specs.Schemas.{least-member}
 use Rattle.model.specs.Entities.{Entity, entity-run, request-run}
 use Rattle.model.specs.Images.{image-of, image-fault}
 use Rattle.model.specs.Environments.{from-concrete-env}
-use Rattle.model.specs.Builds.{full}
+use Rattle.model.specs.Builds.{full, terms-of}
 use Rattle.model.specs.Stores.{no-such-place}
 use Rattle.model.specs.Walks.{resource, attribute, walk-on}
-use Rattle.model.specs.Live.{Setting, afresh, in-use, answer, Call, put, remove, walk, accepted, refused, gives, absent}
+use Rattle.model.specs.Live.{Setting, afresh, parts, in-use, answer, Call, put, remove, walk, accepted, refused, gives, absent}
 use Rattle.model.specs.Histories.{Making, History, lived}
 use Rattle.laws.specs.declared.cases.Cases.{Cases}
 use Rattle.laws.specs.declared.cases.Day.{Day}
@@ -113,7 +113,7 @@ abbrev pub A-whole-day : Type 0
 A-whole-day = History day at-first calls (lived
     (accepted ∷ (refused full ∷ (accepted ∷ (accepted ∷ (refused no-such-place
     ∷ (gives (set (flat bitvec)) (many (elements (flat bitvec)) (term 0 (atom (prim (pattern 3))) no-terms)) ∷ []))))))
-    at-last (afresh in-pool at-last))
+    at-last (afresh in-pool at-last) (terms-of (parts in-pool at-last)))
 
 -- a walk passes from a panel to its lot, and on to the lot's dye
 abbrev pub Two-entities : ℕ → Type 0

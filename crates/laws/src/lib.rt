@@ -4,3 +4,4 @@ pub mod history;
 pub mod need;
 pub mod order;
 pub mod runs;
+pub mod walks;

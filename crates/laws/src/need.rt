@@ -1,6 +1,6 @@
-ghost use Rattle.laws.specs.NeedLaws.{Need-suffices};
+ghost use Rattle.laws.specs.NeedLaws.{Need-laws};
 
-// A symbolized value takes at most its need in records.
-pub fn need_suffices()
-    ensures { λ _. ⌜ Need-suffices ⌝ }
+// The need of a value counts its term before equal elements merge, and is at least the records that the term takes.
+pub fn need_stands()
+    ensures { λ _. ⌜ Need-laws ⌝ }
 {}

@@ -2,7 +2,7 @@
 use Prim.Native.Nat.{ℕ, _+_, _*_}
 use mathlib.Core.Bool.{Bool, true, false, cond, not, _&&_, _||_}
 use mathlib.Core.List.{List, [], _∷_, _++_, map}
-use lib.Dec.{eqb, ltb, leb}
+use lib.Dec.{ltb}
 use lib.ListN.{length}
 use Rattle.std.specs.Options.{isSome}
 use Rattle.std.specs.declared.option.Option.{Option}
@@ -14,17 +14,16 @@ use Rattle.model.specs.declared.fault.Fault.{Fault}
 use Rattle.model.specs.declared.fault.Refusal.the-variants.{Limit, IllFormedTypeEnv, UnsupportedFeature, UnableToSymbolizeValue, NonConforming, Full}
 use Rattle.model.specs.declared.fault.Layer.the-variants.{Schema as schema-layer, Request as request-layer, Entity as entity-layer}
 use Rattle.model.specs.Faults.{placed, wholeCall, ofEntity}
-use Rattle.model.specs.Options.{or-else, any, mapped, unless, filter}
-use Rattle.model.specs.Slots.{Uid}
+use Rattle.model.specs.Options.{or-else, mapped, unless}
 use Rattle.model.specs.Reading.{Refused}
 use Rattle.model.specs.Values as value
 use Rattle.model.specs.Values.{Value, Values}
 use Rattle.model.specs.Types.{Ty}
-use Rattle.model.specs.Terms.{Term, TermTy, size}
+use Rattle.model.specs.Terms.{Term, TermTy, flat, string, no-terms, record-of, size}
 use Rattle.model.specs.Symbolize.{term-type, symbolize, untaken, without-rule, first-among, need, default-literal}
 use Rattle.model.specs.Entities.{Entity, Request, read-request}
-use Rattle.model.specs.Schemas.{Schema, Body, standard, enum, TypeRow, ActionRow, RequestType, same-uid, first-row, no-name, no-uid, type-row, is-standard, action-types, least-member, ancestor-types}
-use Rattle.model.specs.Environments.{SymEnv, context-type, or-empty, of-env, from-concrete-env, attributes-term, ancestors-term, tag-keys-term, uids-of-type}
+use Rattle.model.specs.Schemas.{Schema, Body, standard, enum, RequestType, same-uid, first-row, no-name, no-uid, type-row, action-types, least-member, ancestor-types}
+use Rattle.model.specs.Environments.{SymEnv, SymRequest, entity-type, empty-set, context-type, or-empty, of-env, from-concrete-env, ancestors-term, tag-keys-term, uids-of-type}
 use Rattle.model.specs.Conforms.{tags-place, entity-breaks, request-breaks}
 
 -- the memory that a host gives: records of the pool, entries for the keys of functions, and for tags
@@ -93,96 +92,108 @@ check-fault s q r es =
     or-else (mapped (λ p. placed NonConforming request-layer p) (request-breaks s q (or-empty (context-type s q)) r))
     (mapped (λ x. ofEntity NonConforming (x .0) (x .1)) (first-entity (entity-breaks s) 0 es))
 
--- what a term costs: what it needs before equal elements merge, and the records that it takes
-pub record Cost : Type 0 where
+-- a term of an environment, and the records that it needs while it is written, before equal elements merge
+pub record Part : Type 0 where
   pub needs : ℕ
-  pub takes : ℕ
+  pub of : Term
 
-abbrev pub cost-of : Term → Cost
-cost-of t = record { needs = size t; takes = size t }
+-- only values need more than they take
+abbrev pub as-it-is : Term → Part
+as-it-is t = record { needs = size t; of = t }
 
-abbrev pub value-cost : Ty → Value → Cost
-value-cost t v = record { needs = need t v; takes = size (symbolize t v) }
+abbrev pub value-part : Ty → Value → Part
+value-part t v = record { needs = need t v; of = symbolize t v }
 
-abbrev pub one : Cost
-one = record { needs = 1; takes = 1 }
-
-abbrev pub costs : {X : Type 0} → (X → List Cost) → List X → List Cost
-costs f [] = []
-costs f (x ∷ xs) = f x ++ costs f xs
+abbrev pub parts-of : {X : Type 0} → (X → List Part) → List X → List Part
+parts-of f [] = []
+parts-of f (x ∷ xs) = f x ++ parts-of f xs
 
 -- the default of each defined function of a type: attributes, each ancestor type, tag keys and tag values
-abbrev pub default-cost : Schema → Ty → Cost
-default-cost s t = cost-of (default-literal (least-member s) (term-type t))
+abbrev pub default-part : Schema → Ty → Part
+default-part s t = as-it-is (default-literal (least-member s) (term-type t))
 
-abbrev pub tag-defaults : Schema → Option Ty → List Cost
+abbrev pub empty-part : TermTy → Part
+empty-part a = as-it-is (empty-set a)
+
+abbrev pub ancestor-defaults : List ℕ → List Part
+ancestor-defaults ns = map (λ n. empty-part (entity-type n)) ns
+
+abbrev pub tag-defaults : Schema → Option Ty → List Part
 tag-defaults s None = []
-tag-defaults s (Some t) = one ∷ (default-cost s t ∷ [])
+tag-defaults s (Some t) = empty-part (flat string) ∷ (default-part s t ∷ [])
 
-abbrev pub body-defaults : Schema → ℕ → Body Ty → List Cost
-body-defaults s n (standard ds attributes tags) = default-cost s attributes ∷ (map (λ m. one) (ancestor-types s n) ++ tag-defaults s tags)
-body-defaults s n (enum ms) = one ∷ []
+abbrev pub empty-record : Part
+empty-record = as-it-is (record-of no-terms)
+
+abbrev pub body-defaults : Schema → ℕ → Body Ty → List Part
+body-defaults s n (standard ds attributes tags) = default-part s attributes ∷ (ancestor-defaults (ancestor-types s n) ++ tag-defaults s tags)
+body-defaults s n (enum ms) = empty-record ∷ []
 
 -- of an action type the attributes and each action type as ancestor type
-abbrev pub action-defaults : Schema → List Cost
-action-defaults s = costs (λ n. one ∷ map (λ m. one) (action-types s)) (action-types s)
+abbrev pub action-defaults : Schema → List Part
+action-defaults s = parts-of (λ n. empty-record ∷ ancestor-defaults (action-types s)) (action-types s)
 
 -- the ancestors of each action, for each action type
-abbrev pub action-costs : Schema → List Cost
-action-costs s = costs (λ r. map (λ n. cost-of (uids-of-type n (r .ancestors))) (action-types s)) (s .actions)
+abbrev pub action-parts : Schema → List Part
+action-parts s = parts-of (λ r. map (λ n. as-it-is (uids-of-type n (r .ancestors))) (action-types s)) (s .actions)
 
 -- the terms of an entity of a standard type: attributes, ancestors of each ancestor type, tag keys, tag values in order
-abbrev pub tag-costs : Ty → Values → List Cost
-tag-costs t value.none = []
-tag-costs t (value.more name of rest) = value-cost t of ∷ tag-costs t rest
+abbrev pub tag-parts : Ty → Values → List Part
+tag-parts t value.none = []
+tag-parts t (value.more name of rest) = value-part t of ∷ tag-parts t rest
 
-abbrev pub all-tag-costs : Option Ty → Entity → List Cost
-all-tag-costs None e = []
-all-tag-costs (Some t) e = cost-of (tag-keys-term e) ∷ tag-costs t (e .tags)
+abbrev pub all-tag-parts : Option Ty → Entity → List Part
+all-tag-parts None e = []
+all-tag-parts (Some t) e = as-it-is (tag-keys-term e) ∷ tag-parts t (e .tags)
 
-abbrev pub entity-costs-in : Schema → Entity → Option (Body Ty) → List Cost
-entity-costs-in s e None = []
-entity-costs-in s e (Some (standard ds attributes tags)) =
-    value-cost attributes (value.rec (e .attributes)) ∷ (map (λ n. cost-of (ancestors-term n e)) (ancestor-types s (e .uid .0)) ++ all-tag-costs tags e)
-entity-costs-in s e (Some (enum ms)) = []
+abbrev pub entity-parts-in : Schema → Entity → Option (Body Ty) → List Part
+entity-parts-in s e None = []
+entity-parts-in s e (Some (standard ds attributes tags)) =
+    value-part attributes (value.rec (e .attributes)) ∷ (map (λ n. as-it-is (ancestors-term n e)) (ancestor-types s (e .uid .0)) ++ all-tag-parts tags e)
+entity-parts-in s e (Some (enum ms)) = []
 
-abbrev pub entity-costs : Schema → Entity → List Cost
-entity-costs s e = entity-costs-in s e (type-row s (e .uid .0))
+abbrev pub entity-parts : Schema → Entity → List Part
+entity-parts s e = entity-parts-in s e (type-row s (e .uid .0))
 
 -- the terms of `of_env`: the request, the defaults of enum types and of action types, the action tables
-abbrev pub symbol-defaults : Body Ty → List Cost
+abbrev pub symbol-defaults : Body Ty → List Part
 symbol-defaults (standard ds attributes tags) = []
-symbol-defaults (enum ms) = one ∷ []
+symbol-defaults (enum ms) = empty-record ∷ []
 
-abbrev pub symbol-costs : Schema → List Cost
-symbol-costs s =
-    one ∷ (one ∷ (one ∷ (one ∷ (costs (λ r. symbol-defaults (r .body)) (s .types) ++ (action-defaults s ++ action-costs s)))))
+abbrev pub request-parts : SymRequest → Part → List Part
+request-parts r context = as-it-is (r .principal) ∷ (as-it-is (r .action) ∷ (as-it-is (r .resource) ∷ (context ∷ [])))
+
+abbrev pub symbol-parts : Schema → RequestType → List Part
+symbol-parts s q =
+    request-parts (of-env s q .request) (as-it-is (of-env s q .request .context))
+    ++ (parts-of (λ r. symbol-defaults (r .body)) (s .types) ++ (action-defaults s ++ action-parts s))
 
 -- the terms of `from_concrete_env` in the order of the build: principal, action, resource, context, defaults,
 -- action tables, and then each entity of a standard type in its order
-abbrev pub request-costs : Schema → RequestType → Request → List Cost
-request-costs s q r = one ∷ (one ∷ (one ∷ (value-cost (or-empty (context-type s q)) (value.rec (r .context)) ∷ [])))
+abbrev pub fixed-parts : Schema → RequestType → Request → List Part
+fixed-parts s q r =
+    request-parts (from-concrete-env s q r [] .request) (value-part (or-empty (context-type s q)) (value.rec (r .context)))
+    ++ (parts-of (λ r′. body-defaults s (r′ .name) (r′ .body)) (s .types) ++ (action-defaults s ++ action-parts s))
 
-abbrev pub fixed-costs : Schema → RequestType → Request → List Cost
-fixed-costs s q r =
-    request-costs s q r ++ (costs (λ r′. body-defaults s (r′ .name) (r′ .body)) (s .types) ++ (action-defaults s ++ action-costs s))
+abbrev pub build-parts : Schema → RequestType → Request → List Entity → List Part
+build-parts s q r es = fixed-parts s q r ++ parts-of (entity-parts s) es
 
-abbrev pub build-costs : Schema → RequestType → Request → List Entity → List Cost
-build-costs s q r es = fixed-costs s q r ++ costs (entity-costs s) es
+abbrev pub terms-of : List Part → List Term
+terms-of ps = map (λ p. p .of) ps
 
 -- the records that some terms take, and that they need
-abbrev pub taken : List Cost → ℕ
-taken [] = 0
-taken (c ∷ cs) = c .takes + taken cs
+abbrev pub records-taken : List Part → ℕ
+records-taken [] = 0
+records-taken (p ∷ ps) = size (p .of) + records-taken ps
 
-abbrev pub needed : List Cost → ℕ
-needed [] = 0
-needed (c ∷ cs) = c .needs + needed cs
+abbrev pub records-needed : List Part → ℕ
+records-needed [] = 0
+records-needed (p ∷ ps) = p .needs + records-needed ps
 
 -- whether a term passes the pool, where `used` records are in use before it, or needs over 4,096
-abbrev pub passes-pool : ℕ → ℕ → List Cost → Bool
+abbrev pub passes-pool : ℕ → ℕ → List Part → Bool
 passes-pool pool used [] = false
-passes-pool pool used (c ∷ cs) = (ltb pool (used + c .needs) || ltb 4096 (c .needs)) || passes-pool pool (used + c .takes) cs
+passes-pool pool used (p ∷ ps) = (ltb pool (used + p .needs) || ltb 4096 (p .needs)) || passes-pool pool (used + size (p .of)) ps
 
 -- the keys of an entity in the tables of functions, and in those of tag values
 abbrev pub tag-key : Option Ty → ℕ
@@ -226,17 +237,17 @@ full = wholeCall Full entity-layer
 
 abbrev pub build-full : Sizes → Schema → RequestType → Request → List Entity → Bool
 build-full m s q r es =
-    passes-pool (m .records) 0 (build-costs s q r es) || (ltb (m .functions) (all-function-keys s es) || ltb (m .tags) (all-tag-keys s es))
+    passes-pool (m .records) 0 (build-parts s q r es) || (ltb (m .functions) (all-function-keys s es) || ltb (m .tags) (all-tag-keys s es))
 
-abbrev pub symbol-full : Sizes → Schema → Bool
-symbol-full m s = passes-pool (m .records) 0 (symbol-costs s) || ltb (m .functions) (action-keys s)
+abbrev pub symbol-full : Sizes → Schema → RequestType → Bool
+symbol-full m s q = passes-pool (m .records) 0 (symbol-parts s q) || ltb (m .functions) (action-keys s)
 
 abbrev pub limit : Fault
 limit = wholeCall Limit entity-layer
 
 -- what `of_env` refuses
 abbrev pub of-env-fault : Sizes → Schema → RequestType → Option Fault
-of-env-fault m s q = or-else (when (large-build m q) limit) (or-else (type-fault s q) (when (symbol-full m s) full))
+of-env-fault m s q = or-else (when (large-build m q) limit) (or-else (type-fault s q) (when (symbol-full m s q) full))
 
 -- the environment of `of_env`, or its refusal
 abbrev pub built-symbols : Sizes → Schema → RequestType → Result SymEnv Fault

@@ -11,7 +11,9 @@ use Rattle.std.specs.declared.result.Result.{Result}
 use Rattle.std.specs.declared.result.Result.the-variants.{Ok, Err}
 use Rattle.model.specs.declared.node.Node.{Node}
 use Rattle.model.specs.Trees.{Tree, tree, Trees, none, more, root, run-of, runs-of, nesting, nestings}
-use Rattle.model.specs.Slots.{Uid, Slot, plain, named, a-record, a-uid, ancestor}
+use Rattle.model.specs.declared.slot.Slot.{Slot}
+use Rattle.model.specs.declared.slot.Slot.the-variants.{Plain, Named, ARecord, AUid, Ancestor}
+use Rattle.model.specs.Slots.{Uid}
 use Rattle.model.specs.Layouts.{Layout, values, is-name, signed-below}
 use Rattle.model.specs.Reading.{Rest, Read, Refused, and-then, read-node, read-tree, read-trees, start, whole}
 use Rattle.model.specs.Formed.{fits, keeps, all-fit, all-keep}
@@ -46,7 +48,7 @@ heads = record {
   takes = λ s n. eqb (n .kind) 9 && signed-below (magnitude (n .number) + 1) (n .number);
   keeps = λ s n. is-name (n .a) && (is-name (n .b) && (leb (n .field) 64 && leb (magnitude (n .number)) 64));
   arity = λ n. 0;
-  inside = λ n. plain;
+  inside = λ n. Plain;
 }
 
 abbrev pub uid-of : Tree → Uid
@@ -74,10 +76,10 @@ read-value = read-tree values 16
 
 abbrev pub read-entity : List Node → Result Entity Refused
 read-entity run = whole (
-    and-then (read-node heads false plain (start run)) (λ h r.
-    and-then (read-value a-record r) (λ attributes r′.
-    and-then (read-trees read-value (h .field) (ancestor None) r′) (λ ancestors r″.
-    and-then (read-trees read-value (magnitude (h .number)) (named None) r″) (λ tags r‴.
+    and-then (read-node heads false Plain (start run)) (λ h r.
+    and-then (read-value ARecord r) (λ attributes r′.
+    and-then (read-trees read-value (h .field) (Ancestor None) r′) (λ ancestors r″.
+    and-then (read-trees read-value (magnitude (h .number)) (Named None) r″) (λ tags r‴.
     Ok (entity-of h attributes ancestors tags, r‴))))))
 
 abbrev pub request-of : Tree → Tree → Tree → Tree → Request
@@ -85,10 +87,10 @@ request-of p a r c = record { principal = uid-of p; action = uid-of a; resource 
 
 abbrev pub read-request : List Node → Result Request Refused
 read-request run = whole (
-    and-then (read-value a-uid (start run)) (λ p r.
-    and-then (read-value a-uid r) (λ a r′.
-    and-then (read-value a-uid r′) (λ s r″.
-    and-then (read-value a-record r″) (λ c r‴.
+    and-then (read-value AUid (start run)) (λ p r.
+    and-then (read-value AUid r) (λ a r′.
+    and-then (read-value AUid r′) (λ s r″.
+    and-then (read-value ARecord r″) (λ c r‴.
     Ok (request-of p a s c, r‴))))))
 
 abbrev pub attributes-tree : Entity → Tree
@@ -102,22 +104,22 @@ uid-trees (u ∷ us) = more (tree (uid-node u) none) (uid-trees us)
 pub record Formed-entity (e : Entity) : Type 0 where
   pub named-type : is-name (e .uid .0) ≡ true
   pub named-id : is-name (e .uid .1) ≡ true
-  pub attributes : fits values a-record (attributes-tree e) ≡ true
-  pub kept-attributes : keeps values a-record (attributes-tree e) ≡ true
+  pub attributes : fits values ARecord (attributes-tree e) ≡ true
+  pub kept-attributes : keeps values ARecord (attributes-tree e) ≡ true
   pub shallow-attributes : nesting (attributes-tree e) ≤ 16
   pub few-ancestors : length (e .ancestors) ≤ 64
-  pub ancestors : all-fit values (ancestor None) (uid-trees (e .ancestors)) ≡ true
-  pub kept-ancestors : all-keep values (ancestor None) (uid-trees (e .ancestors)) ≡ true
+  pub ancestors : all-fit values (Ancestor None) (uid-trees (e .ancestors)) ≡ true
+  pub kept-ancestors : all-keep values (Ancestor None) (uid-trees (e .ancestors)) ≡ true
   pub few-tags : count (e .tags) ≤ 64
-  pub tags : all-fit values (named None) (trees-of (e .tags)) ≡ true
-  pub kept-tags : all-keep values (named None) (trees-of (e .tags)) ≡ true
+  pub tags : all-fit values (Named None) (trees-of (e .tags)) ≡ true
+  pub kept-tags : all-keep values (Named None) (trees-of (e .tags)) ≡ true
   pub shallow-tags : nestings (trees-of (e .tags)) ≤ 16
   pub short : length (entity-run e) ≤ 4096
 
 -- a request within the limits
 pub record Formed-request (q : Request) : Type 0 where
-  pub uids : all-keep values a-uid (uid-trees (q .principal ∷ (q .action ∷ (q .resource ∷ [])))) ≡ true
-  pub context : fits values a-record (tree-of 0 (rec (q .context))) ≡ true
-  pub kept-context : keeps values a-record (tree-of 0 (rec (q .context))) ≡ true
+  pub uids : all-keep values AUid (uid-trees (q .principal ∷ (q .action ∷ (q .resource ∷ [])))) ≡ true
+  pub context : fits values ARecord (tree-of 0 (rec (q .context))) ≡ true
+  pub kept-context : keeps values ARecord (tree-of 0 (rec (q .context))) ≡ true
   pub shallow-context : nesting (tree-of 0 (rec (q .context))) ≤ 16
   pub short : length (request-run q) ≤ 4096

@@ -1,17 +1,22 @@
 -- Symbolic environments, as in Lean SymCC: of a schema and a request type, and literal ones of a request and entities.
 use Prim.Native.Nat.{ℕ}
+use mathlib.Core.Path.{_≡_}
 use mathlib.Core.Bool.{Bool, true, false, cond}
-use mathlib.Core.List.{List, [], _∷_, map}
+use mathlib.Core.List.{List, [], _∷_}
 use lib.Dec.{eqb}
+use lib.IntN.{ℤ, pos}
+use Rattle.std.specs.Options.{isSome}
 use Rattle.std.specs.declared.option.Option.{Option}
 use Rattle.std.specs.declared.option.Option.the-variants.{Some, None}
 use Rattle.model.specs.Options.{find, filter, mapped}
+use Rattle.std.specs.declared.cmp.Ordering.{Ordering}
 use Rattle.model.specs.Slots.{Uid}
+use Rattle.model.specs.Orders.{by-number, by-integers, by-pair}
 use Rattle.model.specs.Values as value
 use Rattle.model.specs.Values.{Values}
 use Rattle.model.specs.Types as type
 use Rattle.model.specs.Types.{Ty}
-use Rattle.model.specs.Terms.{TermTy, flat, rec, set, entity, string, none, Term, atom, many, elements, prim, entity-uid, text, var, context, principal, resource, Terms, no-terms, term, record-of, set-of}
+use Rattle.model.specs.Terms.{TermTy, flat, rec, set, entity, string, none, Term, atom, many, elements, prim, entity-uid, text, var, context, principal, resource, Terms, no-terms, term, record-of, set-of, literal}
 use Rattle.model.specs.Symbolize.{term-type, symbolize, default-literal, field}
 use Rattle.model.specs.Entities.{Entity, Request}
 use Rattle.model.specs.Schemas.{Schema, Body, standard, enum, RequestType, same-uid, among, type-row, action-row, context-of, is-action-type, members, least-member, ancestor-types}
@@ -31,7 +36,8 @@ pub record SymTags : Type 0 where
   pub keys : Function Uid
   pub vals : Function TagKey
 
--- the entities of one type: attributes, ancestors by their type, the ids where these are limited, tags where there are some
+-- the entities of one type: attributes, ancestors by their type, the set of ids where these are limited, tags where there
+-- are some
 pub record SymEntityData : Type 0 where
   pub attrs : Function Uid
   pub ancestors : ℕ → Option (Function Uid)
@@ -54,6 +60,26 @@ pub data FunctionId : Type 0 where
   ancestors : (owner of : ℕ) → FunctionId
   tag-keys : (owner : ℕ) → FunctionId
   tag-values : (owner : ℕ) → FunctionId
+
+-- The order of the keys of tables. Names compare by number, and pairs by their left parts first: uids by type and id,
+-- function keys by function and uid, tag keys by uid and tag. Functions compare by kind and names.
+abbrev pub by-uid : Uid → Uid → Ordering
+by-uid = by-pair by-number by-number
+
+abbrev pub function-key : FunctionId → List ℤ
+function-key (attributes n) = pos 0 ∷ (pos n ∷ [])
+function-key (ancestors n m) = pos 1 ∷ (pos n ∷ (pos m ∷ []))
+function-key (tag-keys n) = pos 2 ∷ (pos n ∷ [])
+function-key (tag-values n) = pos 3 ∷ (pos n ∷ [])
+
+abbrev pub by-function : FunctionId → FunctionId → Ordering
+by-function f g = by-integers (function-key f) (function-key g)
+
+abbrev pub by-function-key : FunctionId × Uid → FunctionId × Uid → Ordering
+by-function-key = by-pair by-function by-uid
+
+abbrev pub by-tag-key : TagKey → TagKey → Ordering
+by-tag-key = by-pair by-uid by-number
 
 -- what a function is asked for: an entity of a type, or such an entity and a tag key
 pub data Argument : Type 0 where
@@ -137,7 +163,7 @@ standard-symbols s of attrs tags = record {
   tags = mapped (λ t. record { keys = uninterpreted (set (flat string)); vals = uninterpreted (term-type t) }) tags;
 }
 
--- the entity that a list of entities has under a uid, if it is of a type
+-- the entity that a list of entities has under a uid; and the same if it is of a type
 abbrev pub stored : List Entity → Uid → Option Entity
 stored es u = find (λ e. same-uid (e .uid) u) es
 
@@ -181,6 +207,11 @@ data-by f s n None = cond (is-action-type s n) (Some (action-data s n)) None
 data-by f s n (Some (standard ds attrs tags)) = Some (f n attrs tags)
 data-by f s n (Some (enum ms)) = Some (enum-data ms)
 
+-- no name stands twice in a list
+abbrev pub Each-once : List ℕ → Type 0
+Each-once [] = Unit {0}
+Each-once (n ∷ ns) = (among n ns ≡ false) × Each-once ns
+
 -- the context type of a request type, whose action has to be declared with a closed record
 abbrev pub closed-context : Option Ty → Option Ty
 closed-context None = None
@@ -218,3 +249,26 @@ from-concrete-env s q r es = record {
   };
   entities = λ n. data-by (standard-tables s es) s n (type-row s n);
 }
+
+-- a literal environment: no variables, and every function is a defined table
+abbrev pub Literal-function : {K : Type 0} → Function K → Type 0
+Literal-function (uninterpreted a) = ⊥
+Literal-function {K} (defined a table default) = ((k : K) (t : Term) → table k ≡ Some t → literal t ≡ true) × (literal default ≡ true)
+
+pub record Literal-data (d : SymEntityData) : Type 0 where
+  pub attrs : Literal-function (d .attrs)
+  pub ancestors : (n : ℕ) (f : Function Uid) → d .ancestors n ≡ Some f → Literal-function f
+  pub keys : (t : SymTags) → d .tags ≡ Some t → Literal-function (t .keys)
+  pub vals : (t : SymTags) → d .tags ≡ Some t → Literal-function (t .vals)
+
+pub record Literal-env (e : SymEnv) : Type 0 where
+  pub principal : literal (e .request .principal) ≡ true
+  pub action : literal (e .request .action) ≡ true
+  pub resource : literal (e .request .resource) ≡ true
+  pub context : literal (e .request .context) ≡ true
+  pub entities : (n : ℕ) (d : SymEntityData) → e .entities n ≡ Some d → Literal-data d
+
+-- the types of an environment, each once, in any order
+pub record Lists-types (e : SymEnv) (ns : List ℕ) : Type 0 where
+  pub those : (n : ℕ) → among n ns ≡ isSome (e .entities n)
+  pub once : Each-once ns

@@ -58,10 +58,13 @@ abbrev pub stands : Fault → Fault → Fault
 stands f g = cond (precedes g f) g f
 
 -- of several faults the least stands
-abbrev pub stands-among : Fault → List Fault → Fault
-stands-among f [] = f
-stands-among f (g ∷ gs) = stands-among (stands f g) gs
+abbrev pub keep-least : Option Fault → Fault → Option Fault
+keep-least None f = Some f
+keep-least (Some g) f = Some (stands g f)
+
+abbrev pub least-with : Option Fault → List Fault → Option Fault
+least-with kept [] = kept
+least-with kept (f ∷ fs) = least-with (keep-least kept f) fs
 
 abbrev pub least : List Fault → Option Fault
-least [] = None
-least (f ∷ fs) = Some (stands-among f fs)
+least fs = least-with None fs

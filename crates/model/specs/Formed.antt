@@ -5,7 +5,8 @@ use mathlib.Core.Bool.{Bool, true, _&&_}
 use lib.Dec.{eqb}
 use Rattle.model.specs.declared.node.Node.{Node}
 use Rattle.model.specs.Trees.{Tree, tree, Trees, none, more, root, count, size, nesting}
-use Rattle.model.specs.Slots.{Slot, next}
+use Rattle.model.specs.declared.slot.Slot.{Slot}
+use Rattle.model.specs.Slots.{next}
 use Rattle.model.specs.Layouts.{Layout}
 
 -- every node is one that its slot takes, and has as many children as it announces

@@ -12,9 +12,9 @@ use Rattle.model.specs.Terms.{TermTy, Term}
 use Rattle.model.specs.Entities.{Entity, Request, read-entity, read-request}
 use Rattle.model.specs.Schemas.{Schema, RequestType}
 use Rattle.model.specs.Environments.{SymEnv}
-use Rattle.model.specs.Builds.{Sizes, built}
+use Rattle.model.specs.Builds.{Sizes, built, terms-of}
 use Rattle.model.specs.Walks.{Root, Step, foretold, walk-in, walk-fault}
-use Rattle.model.specs.Live.{Setting, afresh, with-entity, without-uid, put-fault, remove-fault, Call, put, remove, walk, Answer, accepted, refused, gives, absent}
+use Rattle.model.specs.Live.{Setting, afresh, parts, with-entity, without-uid, put-fault, remove-fault, Call, put, remove, walk, Answer, accepted, refused, gives, absent}
 
 -- one call on the present list, its answer, and the list after it
 pub data Serves (g : Setting) : List Entity → Call → Answer → List Entity → Type 0 where
@@ -48,22 +48,20 @@ pub record Making : Type 0 where
   pub sizes : Sizes
   pub buffer : ℕ
 
-abbrev pub makes : Making → List Entity → Type 0
-makes m es = (e : SymEnv) × (built (m .sizes) (m .buffer) true (m .schema) (m .request-type) (m .request-run) es ≡ Ok e)
-
 abbrev pub setting : Making → Request → Setting
 setting m r = record { schema = m .schema; request-type = m .request-type; request = r; sizes = m .sizes }
 
--- what a history ends in: a refused make, or a list of answers, the present list and its environment
+-- what a history ends in: a refused make; or its answers, the present list, and the environment with its terms
 pub data Outcome : Type 0 where
   make-refused : Fault → Outcome
-  lived : List Answer → List Entity → SymEnv → Outcome
+  lived : List Answer → List Entity → SymEnv → List Term → Outcome
 
 -- a history over a store that means a list of entities
 pub data History (m : Making) (es : List Entity) (cs : List Call) : Outcome → Type 0 where
   -- a refused make ends it
   refused-make : {f : Fault} → built (m .sizes) (m .buffer) true (m .schema) (m .request-type) (m .request-run) es ≡ Err f → History m es cs (make-refused f)
-  -- else every call is served on the present list, and the environment is the one built afresh from it
+  -- else every call is served on the present list; the environment is the one built afresh from it, and its terms are
+  -- those whose records are in use
   made : {r : Request} {e : SymEnv} {as′ : List Answer} {ds : List Entity} →
       built (m .sizes) (m .buffer) true (m .schema) (m .request-type) (m .request-run) es ≡ Ok e → read-request (m .request-run) ≡ Ok r →
-      Goes (setting m r) es cs as′ ds → History m es cs (lived as′ ds (afresh (setting m r) ds))
+      Goes (setting m r) es cs as′ ds → History m es cs (lived as′ ds (afresh (setting m r) ds) (terms-of (parts (setting m r) ds)))

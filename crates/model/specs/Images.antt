@@ -21,7 +21,7 @@ use Rattle.model.specs.Bytes.{within, u32-at, node-at}
 use Rattle.model.specs.Checks.{Checked, require, then, each, in-turn}
 use Rattle.model.specs.Faults.{placed, least}
 use Rattle.model.specs.Entities.{Entity, entity-run}
-use Rattle.model.specs.Stores.{runs, run-faults, entities-of}
+use Rattle.model.specs.Stores.{run-faults, entities-of}
 
 abbrev pub entity-count : List ℕ → ℕ
 entity-count bs = u32-at bs 0
@@ -121,7 +121,7 @@ abbrev pub node-faults : List ℕ → List Fault
 node-faults bs =
     fault-of (nodes-there bs (entity-count bs) (node-count bs))
     ++ (fault-of (ends bs (entity-count bs) (node-count bs))
-    ++ (fault-of (counts (entity-count bs) (node-count bs)) ++ run-faults (at-offset bs) 0 None (runs (image-nodes bs) (place-entries bs))))
+    ++ (fault-of (counts (entity-count bs) (node-count bs)) ++ run-faults (at-offset bs) (image-nodes bs) (place-entries bs)))
 
 abbrev pub unless-broken : Checked → Option Fault → Option Fault
 unless-broken (Ok u) rest = rest

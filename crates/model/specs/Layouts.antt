@@ -5,7 +5,9 @@ use lib.Dec.{eqb, ltb, leb}
 use lib.IntN.{ℤ, pos, negsuc}
 use Rattle.std.specs.declared.option.Option.the-variants.{None}
 use Rattle.model.specs.declared.node.Node.{Node}
-use Rattle.model.specs.Slots.{Slot, plain, named, is-named, fills}
+use Rattle.model.specs.declared.slot.Slot.{Slot}
+use Rattle.model.specs.declared.slot.Slot.the-variants.{Plain, Named}
+use Rattle.model.specs.Slots.{is-named, fills}
 
 -- the language of a run: which nodes it takes in a slot, which of these keep the limits, and their children
 pub record Layout : Type 0 where
@@ -22,7 +24,7 @@ signed-below m (negsuc n) = false
 abbrev pub is-zero : ℤ → Bool
 is-zero z = signed-below 1 z
 
--- a name, and a number of things within a limit
+-- a name is below 65,536
 abbrev pub is-name : ℕ → Bool
 is-name n = ltb n 65536
 
@@ -59,7 +61,7 @@ values = record {
   takes = λ s n. fills s (eqb (n .kind) 6) (eqb (n .kind) 4) n && value-node n;
   keeps = λ s n. name-kept s n && value-kept n;
   arity = value-arity;
-  inside = λ n. cond (eqb (n .kind) 6) (named None) plain;
+  inside = λ n. cond (eqb (n .kind) 6) (Named None) Plain;
 }
 
 -- a type's node: an entity type has its name in a, an extension type a code up to 4, a record the number of its fields
@@ -84,5 +86,5 @@ types = record {
   takes = λ s n. fills s (eqb (n .kind) 12 || eqb (n .kind) 13) false n && (type-node n && type-number s n);
   keeps = λ s n. name-kept s n && type-kept n;
   arity = type-arity;
-  inside = λ n. cond (eqb (n .kind) 10) plain (named None);
+  inside = λ n. cond (eqb (n .kind) 10) Plain (Named None);
 }

@@ -1,9 +1,9 @@
 -- Live environments: what `put`, `remove` and `walk` answer, judged by the list of entities before the call, and the list
 -- after it. What `make` answers is `built` with the check.
-use Prim.Native.Nat.{ℕ, _+_, _-_}
+use Prim.Native.Nat.{ℕ, _+_}
 use mathlib.Core.Bool.{Bool, true, false, cond, not, _&&_, _||_}
 use mathlib.Core.List.{List, [], _∷_}
-use lib.Dec.{ltb, leb}
+use lib.Dec.{eqb, ltb, leb}
 use lib.ListN.{length}
 use Rattle.std.specs.Options.{isSome}
 use Rattle.std.specs.declared.option.Option.{Option}
@@ -12,21 +12,20 @@ use Rattle.std.specs.declared.result.Result.{Result}
 use Rattle.std.specs.declared.result.Result.the-variants.{Ok, Err}
 use Rattle.model.specs.declared.node.Node.{Node}
 use Rattle.model.specs.declared.fault.Fault.{Fault}
-use Rattle.model.specs.declared.fault.Refusal.{Refusal}
-use Rattle.model.specs.declared.fault.Refusal.the-variants.{UnableToSymbolizeValue, NonConforming, NotStored}
-use Rattle.model.specs.declared.fault.Layer.the-variants.{Entity as entity-layer}
-use Rattle.model.specs.Faults.{refusalNumber, wholeCall, ofEntity}
+use Rattle.model.specs.declared.fault.Refusal.the-variants.{UnableToSymbolizeValue, NonConforming, NotStored, IllTypedWalk}
+use Rattle.model.specs.declared.fault.Layer.the-variants.{Entity as entity-layer, Walk as walk-layer}
+use Rattle.model.specs.Faults.{refusalNumber, placed, wholeCall, ofEntity}
 use Rattle.model.specs.Options.{or-else, filter, any, mapped}
 use Rattle.model.specs.Slots.{Uid, uid-below}
 use Rattle.model.specs.Reading.{Refused}
-use Rattle.model.specs.Terms.{TermTy, Term}
+use Rattle.model.specs.Terms.{TermTy, Term, encode, encode-type}
+use Rattle.model.specs.Nodes.{fronted}
 use Rattle.model.specs.Entities.{Entity, Request, read-entity, head-uid}
 use Rattle.model.specs.Schemas.{Schema, RequestType, same-uid, no-uid, is-standard}
 use Rattle.model.specs.Environments.{SymEnv, from-concrete-env, stored}
 use Rattle.model.specs.Conforms.{entity-breaks}
-use Rattle.model.specs.Builds.{Sizes, Cost, when, entity-without-rule, entity-costs, build-costs, taken, needed, all-function-keys, all-tag-keys, full, limit}
+use Rattle.model.specs.Builds.{Sizes, Part, when, entity-without-rule, entity-parts, build-parts, records-taken, records-needed, all-function-keys, all-tag-keys, full, limit}
 use Rattle.model.specs.Walks.{Root, Step, Found, foretold, walk-in, walk-fault}
-use lib.Dec.{eqb}
 
 -- what was given to `make` and stays: schema, request type, request, and the sizes of the memory
 pub record Setting : Type 0 where
@@ -35,12 +34,15 @@ pub record Setting : Type 0 where
   pub request : Request
   pub sizes : Sizes
 
--- the environment built afresh from a list, and the records that are in use in it
+-- the environment built afresh from a list, its terms, and the records that they take
 abbrev pub afresh : Setting → List Entity → SymEnv
 afresh g es = from-concrete-env (g .schema) (g .request-type) (g .request) es
 
+abbrev pub parts : Setting → List Entity → List Part
+parts g es = build-parts (g .schema) (g .request-type) (g .request) es
+
 abbrev pub in-use : Setting → List Entity → ℕ
-in-use g es = taken (build-costs (g .schema) (g .request-type) (g .request) es)
+in-use g es = records-taken (parts g es)
 
 -- a list with an entity in uid order, in the place of one with the same uid
 abbrev pub with-entity : Entity → List Entity → List Entity
@@ -60,16 +62,12 @@ standard-in s es = filter (λ e. is-standard s (e .uid .0)) es
 abbrev pub one-too-many : Schema → List Entity → Uid → Bool
 one-too-many s es u = is-standard s (u .0) && (not (isSome (stored es u)) && leb 1024 (length (standard-in s es)))
 
-abbrev pub records-of : Schema → Option Entity → ℕ
-records-of s None = 0
-records-of s (Some e) = taken (entity-costs s e)
-
 -- 11 in a put: the records in use, less those of the entity that is replaced, and the need of all terms of the new one
 -- together pass the pool; or one of these needs over 4,096; or the keys afterwards pass the entries
 abbrev pub put-full : Setting → List Entity → Entity → Bool
 put-full g es e =
-    ltb (g .sizes .records) (in-use g es - records-of (g .schema) (stored es (e .uid)) + needed (entity-costs (g .schema) e))
-    || (any (λ c. ltb 4096 (c .needs)) (entity-costs (g .schema) e)
+    ltb (g .sizes .records) (in-use g (without-uid (e .uid) es) + records-needed (entity-parts (g .schema) e))
+    || (any (λ p. ltb 4096 (p .needs)) (entity-parts (g .schema) e)
     || (ltb (g .sizes .functions) (all-function-keys (g .schema) (with-entity e es)) || ltb (g .sizes .tags) (all-tag-keys (g .schema) (with-entity e es))))
 
 -- 10 in a put: an entity that is not of a standard type does not conform, at its node 1
@@ -121,7 +119,7 @@ walked a (Err k) = absent k
 
 abbrev pub foretold-answer : Result TermTy ℕ → Found Term → Answer
 foretold-answer (Ok a) w = walked a w
-foretold-answer (Err k) w = absent k
+foretold-answer (Err k) w = refused (placed IllTypedWalk walk-layer k)
 
 abbrev pub walk-answer : Option Fault → Result TermTy ℕ → Found Term → Answer
 walk-answer None a w = foretold-answer a w
@@ -147,3 +145,16 @@ abbrev pub after : Setting → List Entity → Call → List Entity
 after g es (put run) = unless-refused (put-fault g es run) (put-read (read-entity run) es) es
 after g es (remove u) = unless-refused (remove-fault g es u) (without-uid u es) es
 after g es (walk root steps types terms) = es
+
+-- the present list after some calls: it is fed their arguments, and no answer
+abbrev pub present : Setting → List Entity → List Call → List Entity
+present g es [] = es
+present g es (c ∷ cs) = present g (after g es c) cs
+
+-- the two buffers of a walk after its answer: type and term stand at their fronts, and the rest is as it was;
+-- a walk that is refused or absent writes nothing
+abbrev pub buffers : Answer → List Node → List Node → List Node × List Node
+buffers accepted types terms = (types, terms)
+buffers (refused f) types terms = (types, terms)
+buffers (gives a t) types terms = (fronted (encode-type a) types, fronted (encode t) terms)
+buffers (absent k) types terms = (types, terms)

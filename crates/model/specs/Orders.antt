@@ -27,6 +27,10 @@ by-integers [] (y ∷ ys) = Less
 by-integers (x ∷ xs) [] = Greater
 by-integers (x ∷ xs) (y ∷ ys) = thenBy (by-integer x y) (by-integers xs ys)
 
+-- pairs by their left parts first
+abbrev pub by-pair : {X Y : Type 0} → (X → X → Ordering) → (Y → Y → Ordering) → X × Y → X × Y → Ordering
+by-pair f g x y = thenBy (f (x .0) (y .0)) (g (x .1) (y .1))
+
 -- exactly one of less, same and greater holds of two, and less is transitive
 pub record Total {X : Type 0} (less : X → X → Bool) : Type 0 where
   pub one-of : (x y : X) → (less x y ≡ true) ⊎ ((x ≡ y) ⊎ (less y x ≡ true))

@@ -13,7 +13,8 @@ use Rattle.model.specs.declared.node.Node.{Node}
 use Rattle.model.specs.declared.fault.Refusal.{Refusal}
 use Rattle.model.specs.declared.fault.Refusal.the-variants.{Malformed, Limit}
 use Rattle.model.specs.Trees.{Tree, tree, Trees, none, more, root}
-use Rattle.model.specs.Slots.{Slot, next}
+use Rattle.model.specs.declared.slot.Slot.{Slot}
+use Rattle.model.specs.Slots.{next}
 use Rattle.model.specs.Layouts.{Layout}
 
 -- a refusal and the node at which it stands

@@ -17,7 +17,9 @@ use Rattle.model.specs.declared.fault.Layer.the-variants.{Schema as schema-lay
 use Rattle.model.specs.Faults.{refusalNumber, placed}
 use Rattle.model.specs.Options.{or-else, find, filter, any, mapped, unless}
 use Rattle.model.specs.Trees.{Tree}
-use Rattle.model.specs.Slots.{Uid, Slot, plain, a-record}
+use Rattle.model.specs.declared.slot.Slot.{Slot}
+use Rattle.model.specs.declared.slot.Slot.the-variants.{Plain, ARecord}
+use Rattle.model.specs.Slots.{Uid}
 use Rattle.model.specs.Layouts.{types, is-name}
 use Rattle.model.specs.Reading.{Refused, read-run}
 use Rattle.model.specs.Types.{Ty, flat, never, type-of, names}
@@ -66,10 +68,10 @@ types-of-actions (r ∷ rs) = added (r .uid .0) (types-of-actions rs)
 -- the runs of a row, with the slot that each has to fill
 abbrev pub optional-run : Option (List Node) → List (Slot × List Node)
 optional-run None = []
-optional-run (Some run) = (plain, run) ∷ []
+optional-run (Some run) = (Plain, run) ∷ []
 
 abbrev pub type-runs : Body (List Node) → List (Slot × List Node)
-type-runs (standard ds attributes tags) = (a-record, attributes) ∷ optional-run tags
+type-runs (standard ds attributes tags) = (ARecord, attributes) ∷ optional-run tags
 type-runs (enum ms) = []
 
 abbrev pub refused-by : ℕ → Result Tree Refused → Bool
@@ -129,14 +131,14 @@ abbrev pub type-in : Slot → List Node → Ty
 type-in s run = as-type (read-run types s run)
 
 abbrev pub closed-body : Body (List Node) → Body Ty
-closed-body (standard ds attributes tags) = standard ds (type-in a-record attributes) (mapped (type-in plain) tags)
+closed-body (standard ds attributes tags) = standard ds (type-in ARecord attributes) (mapped (type-in Plain) tags)
 closed-body (enum ms) = enum ms
 
 abbrev pub closed-type : TypeRow (List Node) → TypeRow Ty
 closed-type r = record { name = r .name; body = closed-body (r .body) }
 
 abbrev pub closed-action : ActionRow (List Node) → ActionRow Ty
-closed-action r = record { uid = r .uid; ancestors = r .ancestors; context = mapped (type-in plain) (r .context) }
+closed-action r = record { uid = r .uid; ancestors = r .ancestors; context = mapped (type-in Plain) (r .context) }
 
 abbrev pub closed : Open → Schema
 closed o = record { types = map closed-type (o .types); actions = map closed-action (o .actions) }

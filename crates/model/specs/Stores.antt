@@ -1,10 +1,10 @@
 -- Stores: what a store means, and the runs that a list of first nodes cuts a list of nodes into.
-use Prim.Native.Nat.{ℕ, _+_, _-_, _≤_}
+use Prim.Native.Nat.{ℕ, zero, suc, _+_, _-_, _≤_}
 use mathlib.Core.Path.{_≡_}
-use mathlib.Core.Bool.{Bool, true, false, cond, _||_}
+use mathlib.Core.Bool.{Bool, true, false, cond, not, _&&_, _||_}
 use mathlib.Core.List.{List, [], _∷_, _++_}
 use lib.Dec.{eqb, ltb, leb}
-use lib.ListN.{length, take, drop}
+use lib.ListN.{length, getD, take, drop}
 use Rattle.std.specs.declared.option.Option.{Option}
 use Rattle.std.specs.declared.option.Option.the-variants.{Some, None}
 use Rattle.std.specs.declared.result.Result.{Result}
@@ -15,7 +15,7 @@ use Rattle.model.specs.declared.fault.Refusal.{Refusal}
 use Rattle.model.specs.declared.fault.Refusal.the-variants.{Malformed, Limit, NotStored}
 use Rattle.model.specs.declared.fault.Layer.the-variants.{Entity as entity-layer}
 use Rattle.model.specs.Faults.{ofEntity, wholeCall, least}
-use Rattle.model.specs.Options.{or-else}
+use Rattle.model.specs.Nodes.{Fits-parts, fronted}
 use Rattle.model.specs.Slots.{Uid, uid-below}
 use Rattle.model.specs.Reading.{Refused}
 use Rattle.model.specs.Entities.{Entity, Formed-entity, entity-run, read-entity, head-uid}
@@ -30,10 +30,20 @@ abbrev pub All-formed : List Entity → Type 0
 All-formed [] = Unit {0}
 All-formed (e ∷ es) = Formed-entity e × All-formed es
 
+-- every node of every run fits the sizes of its parts
+abbrev pub All-fit-parts : List Node → Type 0
+All-fit-parts [] = Unit {0}
+All-fit-parts (n ∷ ns) = Fits-parts n × All-fit-parts ns
+
+abbrev pub Runs-fit-parts : List Entity → Type 0
+Runs-fit-parts [] = Unit {0}
+Runs-fit-parts (e ∷ es) = All-fit-parts (entity-run e) × Runs-fit-parts es
+
 -- the list that a store means: at most 1,024 entities, each within the limits, uids strictly ascending
 pub record Lawful (es : List Entity) : Type 0 where
   pub few : length es ≤ 1024
   pub formed : All-formed es
+  pub sized : Runs-fit-parts es
   pub ascending : Uids-ascend es
 
 -- the entity at a place
@@ -55,7 +65,7 @@ uid-answer es i = uid-told (entity-at es i)
 -- the answer of `load` and the buffer after it: the run stands at its front, and the rest is as it was;
 -- 12 exactly if there is no such place, 2 exactly if the buffer is shorter than the run, and nothing changes then
 abbrev pub loaded : List Node → List Node → Result ℕ Fault × List Node
-loaded run buffer = cond (ltb (length buffer) (length run)) (Err (wholeCall Limit entity-layer), buffer) (Ok (length run), run ++ drop (length run) buffer)
+loaded run buffer = cond (ltb (length buffer) (length run)) (Err (wholeCall Limit entity-layer), buffer) (Ok (length run), fronted run buffer)
 
 abbrev pub load-told : Option Entity → List Node → Result ℕ Fault × List Node
 load-told None buffer = (Err no-such-place, buffer)
@@ -64,80 +74,85 @@ load-told (Some e) buffer = loaded (entity-run e) buffer
 abbrev pub load-answer : List Entity → ℕ → List Node → Result ℕ Fault × List Node
 load-answer es i buffer = load-told (entity-at es i) buffer
 
--- the run from each first node to the next, and from the last to the end
-abbrev pub runs : List Node → List ℕ → List (List Node)
-runs nodes [] = []
-runs nodes (f ∷ []) = drop f nodes ∷ []
-runs nodes (f ∷ (g ∷ gs)) = take (g - f) (drop f nodes) ∷ runs nodes (g ∷ gs)
+-- Nodes with a list of first nodes: the run k goes from the first node k to the next, and the last to the end.
 
--- an entry is broken if it is not 0 as the first, not above the one before, or not below the number of nodes;
--- the first broken entry
-abbrev pub broken-after : ℕ → ℕ → ℕ → List ℕ → Option ℕ
-broken-after v before i [] = None
-broken-after v before i (f ∷ fs) = cond (ltb before f) (cond (ltb f v) (broken-after v f (i + 1) fs) (Some i)) (Some i)
+abbrev pub first-at : List ℕ → ℕ → ℕ
+first-at fs k = getD fs k 0
+
+abbrev pub end-at : ℕ → List ℕ → ℕ → ℕ
+end-at v fs k = cond (ltb (k + 1) (length fs)) (first-at fs (k + 1)) v
+
+abbrev pub run-at : List Node → List ℕ → ℕ → List Node
+run-at nodes fs k = take (end-at (length nodes) fs k - first-at fs k) (drop (first-at fs k) nodes)
+
+-- what a function gives at n numbers from i on
+abbrev pub collected : {X : Type 0} → (ℕ → List X) → ℕ → ℕ → List X
+collected f zero i = []
+collected f (suc n) i = f i ++ collected f n (i + 1)
+
+-- the first of n numbers from i on that passes a test
+abbrev pub first-index : (ℕ → Bool) → ℕ → ℕ → Option ℕ
+first-index p zero i = None
+first-index p (suc n) i = cond (p i) (Some i) (first-index p n (i + 1))
+
+-- an entry is sound if it is 0 as the first, and else above the one before; and below the number v of nodes
+abbrev pub entry-sound : ℕ → List ℕ → ℕ → Bool
+entry-sound v fs k = cond (eqb k 0) (eqb (first-at fs k) 0) (ltb (first-at fs (k - 1)) (first-at fs k)) && ltb (first-at fs k) v
 
 abbrev pub broken-entry : ℕ → List ℕ → Option ℕ
-broken-entry v [] = None
-broken-entry v (f ∷ fs) = cond (eqb f 0) (cond (ltb f v) (broken-after v f 1 fs) (Some 0)) (Some 0)
+broken-entry v fs = first-index (λ k. not (entry-sound v fs k)) (length fs) 0
 
 -- the fault of reading a run, where `at` says how a refusal at a node of the run k is told
 abbrev pub run-fault : (ℕ → ℕ → Refusal → Fault) → ℕ → Result Entity Refused → List Fault
 run-fault at k (Ok e) = []
 run-fault at k (Err x) = at k (x .1) (x .0) ∷ []
 
-abbrev pub not-above : Option Uid → Uid → Bool
-not-above None u = false
-not-above (Some v) u = cond (uid-below v u) false true
+-- a uid that is not above that of the run before
+abbrev pub uid-fault : (ℕ → ℕ → Refusal → Fault) → List Node → List ℕ → ℕ → List Fault
+uid-fault at nodes fs k =
+    cond (eqb k 0 || uid-below (head-uid (run-at nodes fs (k - 1))) (head-uid (run-at nodes fs k))) [] (at k 1 Malformed ∷ [])
 
-abbrev pub uid-fault : (ℕ → ℕ → Refusal → Fault) → ℕ → Option Uid → Uid → List Fault
-uid-fault at k before u = cond (not-above before u) (at k 1 Malformed ∷ []) []
+-- the faults of the run k, and of all runs
+abbrev pub faults-at : (ℕ → ℕ → Refusal → Fault) → List Node → List ℕ → ℕ → List Fault
+faults-at at nodes fs k = run-fault at k (read-entity (run-at nodes fs k)) ++ uid-fault at nodes fs k
 
--- the faults of runs: of each what its reading refuses, and a uid that is not above that of the run before
-abbrev pub run-faults : (ℕ → ℕ → Refusal → Fault) → ℕ → Option Uid → List (List Node) → List Fault
-run-faults at k before [] = []
-run-faults at k before (run ∷ rest) =
-    run-fault at k (read-entity run) ++ (uid-fault at k before (head-uid run) ++ run-faults at (k + 1) (Some (head-uid run)) rest)
+abbrev pub run-faults : (ℕ → ℕ → Refusal → Fault) → List Node → List ℕ → List Fault
+run-faults at nodes fs = collected (faults-at at nodes fs) (length fs) 0
 
-abbrev pub entities-read : List (Result Entity Refused) → List Entity
-entities-read [] = []
-entities-read (Ok e ∷ rs) = e ∷ entities-read rs
-entities-read (Err x ∷ rs) = entities-read rs
-
-abbrev pub read-all : List (List Node) → List (Result Entity Refused)
-read-all [] = []
-read-all (run ∷ rest) = read-entity run ∷ read-all rest
+abbrev pub entity-if-read : Result Entity Refused → List Entity
+entity-if-read (Ok e) = e ∷ []
+entity-if-read (Err x) = []
 
 -- the entities of a list of nodes with a list of first nodes
 abbrev pub entities-of : List Node → List ℕ → List Entity
-entities-of nodes firsts = entities-read (read-all (runs nodes firsts))
+entities-of nodes fs = collected (λ k. entity-if-read (read-entity (run-at nodes fs k))) (length fs) 0
 
--- the run in which the node j lies, and its number there
-abbrev pub node-in : ℕ → ℕ → ℕ → List ℕ → ℕ × ℕ
-node-in j k f [] = (k, j - f + 1)
-node-in j k f (g ∷ gs) = cond (ltb j g) (k, j - f + 1) (node-in j (k + 1) g gs)
+-- The table of nodes
 
-abbrev pub node-among : ℕ → List ℕ → ℕ × ℕ
-node-among j [] = (0, j + 1)
-node-among j (f ∷ fs) = node-in j 0 f fs
+-- the run in which the node j lies: the last that begins no later
+abbrev pub run-holding : ℕ → List ℕ → ℕ → ℕ
+run-holding j fs zero = 0
+run-holding j fs (suc k) = cond (leb (first-at fs (suc k)) j) (suc k) (run-holding j fs k)
 
-abbrev pub at-node : Refusal → ℕ × ℕ → Fault
-at-node r x = ofEntity r (x .0) (x .1)
+-- a refusal at the node j, by its run and its number there
+abbrev pub at-node : Refusal → List ℕ → ℕ → Fault
+at-node r fs j =
+    ofEntity r (run-holding j fs (length fs - 1)) (j - first-at fs (run-holding j fs (length fs - 1)) + 1)
 
--- 2: the 1,025th entity, and node 65,537
-abbrev pub table-limits : List Node → List ℕ → List Fault
-table-limits nodes firsts =
-    cond (ltb 1024 (length firsts)) (ofEntity Limit 1024 1 ∷ []) []
-    ++ cond (ltb 65536 (length nodes)) (at-node Limit (node-among 65536 firsts) ∷ []) []
+abbrev pub fault-if : Bool → Fault → List Fault
+fault-if b f = cond b (f ∷ []) []
 
-abbrev pub left-over : List Node → List ℕ → List Fault
-left-over nodes [] = cond (eqb (length nodes) 0) [] (ofEntity Malformed 0 1 ∷ [])
-left-over nodes (f ∷ fs) = []
+-- 1: nodes but no entity; 2: the 1,025th entity, and node 65,537
+abbrev pub table-faults : List Node → List ℕ → List Fault
+table-faults nodes fs =
+    fault-if (eqb (length fs) 0 && ltb 0 (length nodes)) (ofEntity Malformed 0 1)
+    ++ (fault-if (ltb 1024 (length fs)) (ofEntity Limit 1024 1) ++ fault-if (ltb 65536 (length nodes)) (at-node Limit fs 65536))
 
-abbrev pub runs-or-entry : Option ℕ → List Node → List ℕ → Option Fault
-runs-or-entry (Some k) nodes firsts = Some (ofEntity Malformed k 1)
-runs-or-entry None nodes firsts =
-    least (left-over nodes firsts ++ (run-faults (λ k p r. ofEntity r k p) 0 None (runs nodes firsts) ++ table-limits nodes firsts))
+abbrev pub unless-entry : Option ℕ → Option Fault → Option Fault
+unless-entry (Some k) rest = Some (ofEntity Malformed k 1)
+unless-entry None rest = rest
 
 -- what making a table of nodes refuses: a broken entry stands alone, since no run is defined then; else the least fault
 abbrev pub table-fault : List Node → List ℕ → Option Fault
-table-fault nodes firsts = runs-or-entry (broken-entry (length nodes) firsts) nodes firsts
+table-fault nodes fs =
+    unless-entry (broken-entry (length nodes) fs) (least (table-faults nodes fs ++ run-faults (λ k p r. ofEntity r k p) nodes fs))

@@ -1,13 +1,13 @@
 -- Cedar's types and values as term types and terms: of_type, from_value, the need of a value, default literals.
 -- `term-type` and `symbolize` are total: what is not taken, or has no rule, is told apart by `untaken` and `without-rule`.
-use Prim.Native.Nat.{ℕ, zero, suc, _+_, _-_, _^_}
+use Prim.Native.Nat.{ℕ, suc, _+_, _-_, _^_}
 use mathlib.Core.Bool.{Bool, true, false, cond, _&&_}
 use lib.Dec.{eqb, ltb, leb}
 use lib.IntN.{ℤ, pos, negsuc}
 use Rattle.std.specs.declared.option.Option.{Option}
 use Rattle.std.specs.declared.option.Option.the-variants.{Some, None}
 use Rattle.std.specs.declared.result.Result.{Result}
-use Rattle.model.specs.Options.{or-else, mapped, unless}
+use Rattle.model.specs.Options.{or-else, unless}
 use Rattle.model.specs.Values as value
 use Rattle.model.specs.Values.{Value, Values, decimal, ipaddr, datetime, duration, field-at}
 use Rattle.model.specs.Types as type

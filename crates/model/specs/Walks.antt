@@ -4,7 +4,6 @@ use mathlib.Core.Bool.{Bool, true, false, cond}
 use mathlib.Core.List.{List, [], _∷_}
 use lib.Dec.{eqb, ltb}
 use lib.IntN.{pos}
-use lib.ListN.{length, take}
 use Rattle.std.specs.declared.option.Option.{Option}
 use Rattle.std.specs.declared.option.Option.the-variants.{Some, None}
 use Rattle.std.specs.declared.result.Result.{Result}
@@ -59,11 +58,11 @@ record-field n (term.flat x) = None
 record-field n (term.rec xs) = field-type n xs
 record-field n (term.set a) = None
 
--- the attribute of an entity type, the type of its tags, whether it has ancestors of a type
 abbrev pub and-then : {X Y : Type 0} → Option X → (X → Option Y) → Option Y
 and-then None f = None
 and-then (Some x) f = f x
 
+-- the types of ancestors that a type has tables for
 abbrev pub ancestor-tables-in : Schema → ℕ → Option (Body Ty) → List ℕ
 ancestor-tables-in s n None = cond (is-action-type s n) (action-types s) []
 ancestor-tables-in s n (Some (standard ds attributes tags)) = ancestor-types s n
@@ -72,6 +71,7 @@ ancestor-tables-in s n (Some (enum ms)) = []
 abbrev pub ancestor-tables : Schema → ℕ → List ℕ
 ancestor-tables s n = ancestor-tables-in s n (type-row s n)
 
+-- the attribute of an entity type, the type of its tags, its ancestors of a type where it has these
 abbrev pub entity-step : Schema → Step → ℕ → Option TermTy
 entity-step s (attribute n) e = and-then (attributes-of s e) (λ t. record-field n (term-type t))
 entity-step s (tag n) e = mapped term-type (tags-of s e)

@@ -1,6 +1,6 @@
 ghost use mathlib.Core.Path.{_≡_};
 ghost use Rattle.model.specs.Orders.{Total};
-ghost use Rattle.model.specs.Faults.{refusalNumber, layerNumber, wholeCall, placed, ofEntity, precedes as precedesOf, stands};
+ghost use Rattle.model.specs.Faults.{refusalNumber, layerNumber, wholeCall, placed, ofEntity, precedes as precedesOf, stands, keep-least};
 
 // What is refused. The numbers are those that a host sees; the Rust's names where it has one.
 #[derive(Clone, Copy, PartialEq, Eq)]
@@ -140,6 +140,16 @@ impl Fault {
         ensures { λ r. ⌜ r ≡ stands self other ⌝ }
     {
         if other.precedes(&self) { other } else { self }
+    }
+
+    // The least fault so far, and one more.
+    pub fn keep_least(kept: Option<Fault>, fault: Fault) -> Option<Fault>
+        ensures { λ r. ⌜ r ≡ keep-least kept fault ⌝ }
+    {
+        match kept {
+            None => Some(fault),
+            Some(least) => Some(least.first(fault)),
+        }
     }
 }
 

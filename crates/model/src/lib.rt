@@ -3,3 +3,4 @@ pub mod fault;
 pub mod kind;
 pub mod limits;
 pub mod node;
+pub mod slot;
