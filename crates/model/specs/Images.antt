@@ -5,7 +5,7 @@ use Prim.Native.Nat.{ℕ, zero, suc, _+_, _-_, _*_, _/_, _%_, min}
 use mathlib.Core.Bool.{Bool, cond, _||_, _&&_}
 use mathlib.Core.List.{List, [], _∷_, _++_, map}
 use lib.Dec.{eqb, ltb, leb}
-use lib.ListN.{length}
+use lib.ListN.{length, take, drop}
 use mir.Syntax.{w64}
 use mir.Val.{ofZ}
 use Rattle.std.specs.Iters.{counting}
@@ -134,6 +134,19 @@ image-fault bs = unless-broken (then (header bs) (place-list bs (entity-count bs
 -- the entities of an image
 abbrev pub image-entities : List ℕ → List Entity
 image-entities bs = entities-of (image-nodes bs) (place-entries bs)
+
+-- a node of the image as it is handed out: its kind, its 24 bytes and its offset
+pub record View : Type 0 where
+  pub kind : ℕ
+  pub bytes : List ℕ
+  pub offset : ℕ
+
+abbrev pub view-at : List ℕ → ℕ → View
+view-at bs offset = record { kind = u32-at bs offset; bytes = take 24 (drop offset bs); offset = offset }
+
+-- the view of the node j, where there is such a node
+abbrev pub image-view : List ℕ → ℕ → Option View
+image-view bs j = numbered j (node-count bs) (Some (view-at bs (node-offset (entity-count bs) j)))
 
 -- Writing
 

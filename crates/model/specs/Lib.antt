@@ -11,6 +11,7 @@ pub mod Images
 pub mod Kinds
 pub mod Layouts
 pub mod Live
+pub mod Memories
 pub mod Nodes
 pub mod Options
 pub mod Orders
