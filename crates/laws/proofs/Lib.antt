@@ -3,7 +3,7 @@ mod AtEntity
 mod Closing
 mod Conforming
 mod Defaults
-mod EntityRuns
+pub mod EntityRuns
 mod ExampleDay
 mod Inserting
 mod KeyOrders
@@ -12,8 +12,8 @@ mod Merging
 mod Numbers
 mod Parts
 mod ReadsEach
-mod ReadsOnly
-mod RequestRuns
+pub mod ReadsOnly
+pub mod RequestRuns
 mod Searches
 mod Served
 mod SlotTrees

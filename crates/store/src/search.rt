@@ -5,7 +5,7 @@ use crate::store::Store;
 use model::node::Uid;
 
 // Pairs compare by their left parts first.
-fn below(u: Uid, v: Uid) -> bool
+pub(crate) fn below(u: Uid, v: Uid) -> bool
     ensures { λ r. ⌜ r ≡ uid-below u v ⌝ }
 {
     u.0 < v.0 || u.0 == v.0 && u.1 < v.1

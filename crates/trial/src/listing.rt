@@ -1,6 +1,5 @@
 use crate::names::Names;
 use crate::notation;
-use image::frame::Header;
 use model::kind::ENTITY_KIND;
 use model::kind::ExtensionKind;
 use model::kind::ValueKind;
@@ -10,15 +9,14 @@ use model::node::Node;
 use std::alloc::Global;
 use std::error::AnyError;
 
-// The entities of an image as text.
+// The run of an entity, to be written in Cedar's notation.
 #[derive(Clone, Copy)]
 pub struct Listing<'a> {
-    bytes: &'a [u8],
-    header: Header,
+    run: &'a [Node],
     names: &'a Names,
 }
 
-fn broken(heap: Global, j: u32) -> AnyError {
+fn broken(heap: Global, j: usize) -> AnyError {
     match format!(heap, "the node {j} is none of an entity") {
         Ok(text) => text.into(),
         Err(e) => e.into(),
@@ -26,19 +24,15 @@ fn broken(heap: Global, j: u32) -> AnyError {
 }
 
 impl<'a> Listing<'a> {
-    pub(crate) fn new(bytes: &'a [u8], header: Header, names: &'a Names) -> Listing<'a> {
-        Listing {
-            bytes,
-            header,
-            names,
-        }
+    pub(crate) fn new(run: &'a [Node], names: &'a Names) -> Listing<'a> {
+        Listing { run, names }
     }
 
-    fn node(&self, heap: Global, j: u32) -> Result<Node, AnyError> {
-        match self.header.node(self.bytes, j) {
-            Some(node) => Ok(node),
-            None => Err(broken(heap, j)),
+    fn node(&self, heap: Global, j: usize) -> Result<Node, AnyError> {
+        if j < self.run.len() {
+            return Ok(self.run[j]);
         }
+        Err(broken(heap, j))
     }
 
     fn name(&self, heap: Global, name: Name) -> Result<&str, AnyError> {
@@ -55,7 +49,7 @@ impl<'a> Listing<'a> {
         Ok(())
     }
 
-    fn extension(&self, heap: Global, j: u32, node: Node) -> Result<String, AnyError> {
+    fn extension(&self, heap: Global, j: usize, node: Node) -> Result<String, AnyError> {
         let text = match ExtensionKind::of(node.a) {
             Some(ExtensionKind::Decimal) => notation::decimal(heap, node.number)?,
             Some(ExtensionKind::Ipaddr) => match u32::try_from(node.number) {
@@ -74,9 +68,9 @@ impl<'a> Listing<'a> {
         &self,
         out: &mut String,
         heap: Global,
-        j: u32,
+        j: usize,
         nesting: usize,
-    ) -> Result<u32, AnyError> {
+    ) -> Result<usize, AnyError> {
         let node = self.node(heap, j)?;
         let next = j.saturating_add(1);
         match ValueKind::of(node.kind) {
@@ -109,10 +103,10 @@ impl<'a> Listing<'a> {
         &self,
         out: &mut String,
         heap: Global,
-        j: u32,
+        j: usize,
         count: u32,
         nesting: usize,
-    ) -> Result<u32, AnyError> {
+    ) -> Result<usize, AnyError> {
         out.push('[')?;
         let mut next = j;
         for i in 0..count {
@@ -130,10 +124,10 @@ impl<'a> Listing<'a> {
         &self,
         out: &mut String,
         heap: Global,
-        j: u32,
+        j: usize,
         count: u32,
         nesting: usize,
-    ) -> Result<u32, AnyError> {
+    ) -> Result<usize, AnyError> {
         if count == 0 {
             out.push_str("{}")?;
             return Ok(j);
@@ -154,9 +148,9 @@ impl<'a> Listing<'a> {
         &self,
         out: &mut String,
         heap: Global,
-        j: u32,
+        j: usize,
         count: u32,
-    ) -> Result<u32, AnyError> {
+    ) -> Result<usize, AnyError> {
         let mut next = j;
         for i in 0..count {
             out.push_str(if i == 0 { " in [" } else { ", " })?;
@@ -169,22 +163,19 @@ impl<'a> Listing<'a> {
         Ok(next)
     }
 
-    // The entity at the place `k`, on one line.
-    pub(crate) fn entity(&self, heap: Global, k: u32) -> Result<String, AnyError> {
-        let Some(first) = self.header.first_node(self.bytes, k) else {
-            return Err("an entity beyond the last".into());
-        };
-        let head = self.node(heap, first)?;
+    // The entity, on one line.
+    pub(crate) fn entity(&self, heap: Global) -> Result<String, AnyError> {
+        let head = self.node(heap, 0)?;
         let Ok(tags) = u32::try_from(head.number) else {
-            return Err(broken(heap, first));
+            return Err(broken(heap, 0));
         };
         if head.kind != ENTITY_KIND {
-            return Err(broken(heap, first));
+            return Err(broken(heap, 0));
         }
         let mut out = String::new(heap);
         self.uid(&mut out, heap, head)?;
         out.push(' ')?;
-        let next = self.value(&mut out, heap, first.saturating_add(1), limits::NESTING)?;
+        let next = self.value(&mut out, heap, 1, limits::NESTING)?;
         let next = self.ancestors(&mut out, heap, next, head.field)?;
         if tags > 0 {
             out.push_str(" tags ")?;

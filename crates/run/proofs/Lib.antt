@@ -1,0 +1,9 @@
+mod EntityVerdict
+mod Exactness
+mod FieldPlaces
+mod NextNode
+mod Passing
+mod RequestVerdict
+mod TreesInTurn
+mod Unknown
+mod VerdictSteps

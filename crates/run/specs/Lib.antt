@@ -1,0 +1,4 @@
+pub mod Languages
+pub mod Places
+pub mod Reads
+pub mod Verdicts
