@@ -6,9 +6,11 @@ use Rattle.std.specs.declared.result.Result.{Result}
 use Rattle.std.specs.declared.result.Result.the-variants.{Ok, Err}
 use Rattle.model.specs.declared.fault.Fault.{Fault}
 
+-- a check: nothing where it holds, or the fault that it found
 abbrev pub Checked : Type 0
 Checked = Result (Unit {0}) Fault
 
+-- the check that always holds
 abbrev pub good : Checked
 good = Ok tt
 

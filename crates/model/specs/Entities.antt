@@ -19,12 +19,14 @@ use Rattle.model.specs.Reading.{Rest, Read, Refused, and-then, read-node, read
 use Rattle.model.specs.Formed.{fits, keeps, all-fit, all-keep}
 use Rattle.model.specs.Values.{Values, count, rec, uid-node, tree-of, trees-of, value-of, values-of, fields-of, magnitude}
 
+-- an entity: its uid, attributes, ancestors and tags
 pub record Entity : Type 0 where
   pub uid : Uid
   pub attributes : Values
   pub ancestors : List Uid
   pub tags : Values
 
+-- a request: principal, action, resource, and the fields of the context
 pub record Request : Type 0 where
   pub principal : Uid
   pub action : Uid
@@ -39,6 +41,7 @@ head e = record { kind = 9; field = length (e .ancestors); a = e .uid .0; b = e 
 abbrev pub entity-run : Entity → List Node
 entity-run e = head e ∷ (run-of (tree-of 0 (rec (e .attributes))) ++ (map uid-node (e .ancestors) ++ runs-of (trees-of (e .tags))))
 
+-- principal, action and resource as uids, and the context as a record
 abbrev pub request-run : Request → List Node
 request-run q = uid-node (q .principal) ∷ (uid-node (q .action) ∷ (uid-node (q .resource) ∷ run-of (tree-of 0 (rec (q .context)))))
 
@@ -51,13 +54,16 @@ heads = record {
   inside = λ n. Plain;
 }
 
+-- the uid that the root of a tree names
 abbrev pub uid-of : Tree → Uid
 uid-of t = (root t .a, root t .b)
 
+-- the uids that the roots of some trees name
 abbrev pub uids-of : Trees → List Uid
 uids-of none = []
 uids-of (more t ts) = uid-of t ∷ uids-of ts
 
+-- the entity of a head and of the trees of its attributes, ancestors and tags
 abbrev pub entity-of : Node → Tree → Trees → Trees → Entity
 entity-of h attributes ancestors tags = record {
   uid = (h .a, h .b);
@@ -71,9 +77,11 @@ abbrev pub head-uid : List Node → Uid
 head-uid [] = (0, 0)
 head-uid (n ∷ ns) = (n .a, n .b)
 
+-- the tree of the value that stands next in a run
 abbrev pub read-value : Slot → Rest → Read Tree
 read-value = read-tree values 16
 
+-- the entity of a run, or the refusal and its node
 abbrev pub read-entity : List Node → Result Entity Refused
 read-entity run = whole (
     and-then (read-node heads false Plain (start run)) (λ h r.
@@ -82,9 +90,11 @@ read-entity run = whole (
     and-then (read-trees read-value (magnitude (h .number)) (Named None) r″) (λ tags r‴.
     Ok (entity-of h attributes ancestors tags, r‴))))))
 
+-- the request of the trees of principal, action, resource and context
 abbrev pub request-of : Tree → Tree → Tree → Tree → Request
 request-of p a r c = record { principal = uid-of p; action = uid-of a; resource = uid-of r; context = fields-of (value-of c) }
 
+-- the request of a run, or the refusal and its node
 abbrev pub read-request : List Node → Result Request Refused
 read-request run = whole (
     and-then (read-value AUid (start run)) (λ p r.
@@ -93,9 +103,11 @@ read-request run = whole (
     and-then (read-value ARecord r″) (λ c r‴.
     Ok (request-of p a s c, r‴))))))
 
+-- the attributes of an entity as the tree of a record
 abbrev pub attributes-tree : Entity → Tree
 attributes-tree e = tree-of 0 (rec (e .attributes))
 
+-- some uids as trees of one node each
 abbrev pub uid-trees : List Uid → Trees
 uid-trees [] = none
 uid-trees (u ∷ us) = more (tree (uid-node u) none) (uid-trees us)

@@ -44,12 +44,14 @@ pub record SymEntityData : Type 0 where
   pub members : Option (List ℕ)
   pub tags : Option SymTags
 
+-- a symbolic request: its principal, action, resource and context are terms
 pub record SymRequest : Type 0 where
   pub principal : Term
   pub action : Term
   pub resource : Term
   pub context : Term
 
+-- a symbolic environment: a request, and the data of each entity type that it has
 pub record SymEnv : Type 0 where
   pub request : SymRequest
   pub entities : ℕ → Option SymEntityData
@@ -66,18 +68,22 @@ pub data FunctionId : Type 0 where
 abbrev pub by-uid : Uid → Uid → Ordering
 by-uid = by-pair by-number by-number
 
+-- the kind and the names of a function, by which functions compare
 abbrev pub function-key : FunctionId → List ℤ
 function-key (attributes n) = pos 0 ∷ (pos n ∷ [])
 function-key (ancestors n m) = pos 1 ∷ (pos n ∷ (pos m ∷ []))
 function-key (tag-keys n) = pos 2 ∷ (pos n ∷ [])
 function-key (tag-values n) = pos 3 ∷ (pos n ∷ [])
 
+-- the order of functions: by kind, and then by names
 abbrev pub by-function : FunctionId → FunctionId → Ordering
 by-function f g = by-integers (function-key f) (function-key g)
 
+-- the order of function keys: by function, and then by uid
 abbrev pub by-function-key : FunctionId × Uid → FunctionId × Uid → Ordering
 by-function-key = by-pair by-function by-uid
 
+-- the order of tag keys: by uid, and then by tag
 abbrev pub by-tag-key : TagKey → TagKey → Ordering
 by-tag-key = by-pair by-uid by-number
 
@@ -86,12 +92,14 @@ pub data Argument : Type 0 where
   an-entity : ℕ → Argument
   entity-and-tag : ℕ → Argument
 
+-- what a function of an environment is asked for
 abbrev pub argument : FunctionId → Argument
 argument (attributes n) = an-entity n
 argument (ancestors n m) = an-entity n
 argument (tag-keys n) = an-entity n
 argument (tag-values n) = entity-and-tag n
 
+-- the type of the results of a function
 abbrev pub result : {K : Type 0} → Function K → TermTy
 result (uninterpreted a) = a
 result (defined a table default) = a
@@ -104,24 +112,30 @@ result-in (Some d) (ancestors n m) = mapped result (d .ancestors m)
 result-in (Some d) (tag-keys n) = mapped (λ t. result (t .keys)) (d .tags)
 result-in (Some d) (tag-values n) = mapped (λ t. result (t .vals)) (d .tags)
 
+-- the entity type to which a function belongs
 abbrev pub owner : FunctionId → ℕ
 owner (attributes n) = n
 owner (ancestors n m) = n
 owner (tag-keys n) = n
 owner (tag-values n) = n
 
+-- the type of the results of a function of an environment
 abbrev pub result-type : SymEnv → FunctionId → Option TermTy
 result-type e f = result-in (e .entities (owner f)) f
 
+-- the term type of the entities of a type
 abbrev pub entity-type : ℕ → TermTy
 entity-type n = flat (entity n)
 
+-- the term of a uid
 abbrev pub uid-term : Uid → Term
 uid-term u = atom (prim (entity-uid u))
 
+-- the table without keys
 abbrev pub no-table : {K : Type 0} → K → Option Term
 no-table k = None
 
+-- the terms of some uids
 abbrev pub uid-terms : List Uid → Terms
 uid-terms [] = no-terms
 uid-terms (u ∷ us) = term 0 (uid-term u) (uid-terms us)
@@ -130,6 +144,7 @@ uid-terms (u ∷ us) = term 0 (uid-term u) (uid-terms us)
 abbrev pub uids-of-type : ℕ → List Uid → Term
 uids-of-type n us = set-of (entity-type n) (uid-terms (filter (λ u. eqb (u .0) n) us))
 
+-- the empty set of elements of a type
 abbrev pub empty-set : TermTy → Term
 empty-set a = many (elements a) no-terms
 
@@ -151,6 +166,7 @@ action-data s of = record {
   tags = None;
 }
 
+-- an enum type: its members, and neither attributes, ancestors nor tags
 abbrev pub enum-data : List ℕ → SymEntityData
 enum-data ms = record { attrs = no-attributes; ancestors = λ n. None; members = Some ms; tags = None }
 
@@ -167,9 +183,11 @@ standard-symbols s of attrs tags = record {
 abbrev pub stored : List Entity → Uid → Option Entity
 stored es u = find (λ e. same-uid (e .uid) u) es
 
+-- the listed entity of a uid, if the uid is of the type n
 abbrev pub stored-as : ℕ → List Entity → Uid → Option Entity
 stored-as n es u = cond (eqb (u .0) n) (stored es u) None
 
+-- the names of some tags as string terms
 abbrev pub key-terms : Values → Terms
 key-terms value.none = no-terms
 key-terms (value.more name of rest) = term 0 (atom (prim (text name))) (key-terms rest)
@@ -178,12 +196,15 @@ key-terms (value.more name of rest) = term 0 (atom (prim (text name))) (key-term
 abbrev pub attributes-term : Ty → Entity → Term
 attributes-term t e = symbolize t (value.rec (e .attributes))
 
+-- the ancestors of an entity that are of the type n, as a set
 abbrev pub ancestors-term : ℕ → Entity → Term
 ancestors-term n e = uids-of-type n (e .ancestors)
 
+-- the tag keys of an entity, as a set of strings
 abbrev pub tag-keys-term : Entity → Term
 tag-keys-term e = set-of (flat string) (key-terms (e .tags))
 
+-- the term of the tag of this key, where the entity is stored and has it
 abbrev pub tag-in : Ty → ℕ → Option Entity → Option Term
 tag-in t key None = None
 tag-in t key (Some e) = mapped (symbolize t) (field key (e .tags))
@@ -202,6 +223,7 @@ standard-tables s es of attrs tags = record {
   }) tags;
 }
 
+-- the data of an entity type by its row, where `f` gives those of a standard type; none if it is not declared
 abbrev pub data-by : (ℕ → Ty → Option Ty → SymEntityData) → Schema → ℕ → Option (Body Ty) → Option SymEntityData
 data-by f s n None = cond (is-action-type s n) (Some (action-data s n)) None
 data-by f s n (Some (standard ds attrs tags)) = Some (f n attrs tags)
@@ -219,9 +241,11 @@ closed-context (Some (type.flat x)) = None
 closed-context (Some (type.set t)) = None
 closed-context (Some (type.rec is-open ts)) = cond is-open None (Some (type.rec is-open ts))
 
+-- the context type of a request type, if its action is declared with a closed record
 abbrev pub context-type : Schema → RequestType → Option Ty
 context-type s q = closed-context (context-of s (q .action))
 
+-- a type, or the empty closed record where there is none
 abbrev pub or-empty : Option Ty → Ty
 or-empty None = type.rec false type.none
 or-empty (Some t) = t
@@ -255,12 +279,14 @@ abbrev pub Literal-function : {K : Type 0} → Function K → Type 0
 Literal-function (uninterpreted a) = ⊥
 Literal-function {K} (defined a table default) = ((k : K) (t : Term) → table k ≡ Some t → literal t ≡ true) × (literal default ≡ true)
 
+-- the data of an entity type are literal: every function is a table of literal terms
 pub record Literal-data (d : SymEntityData) : Type 0 where
   pub attrs : Literal-function (d .attrs)
   pub ancestors : (n : ℕ) (f : Function Uid) → d .ancestors n ≡ Some f → Literal-function f
   pub keys : (t : SymTags) → d .tags ≡ Some t → Literal-function (t .keys)
   pub vals : (t : SymTags) → d .tags ≡ Some t → Literal-function (t .vals)
 
+-- an environment is literal: so are its request and the data of every entity type
 pub record Literal-env (e : SymEnv) : Type 0 where
   pub principal : literal (e .request .principal) ≡ true
   pub action : literal (e .request .action) ≡ true

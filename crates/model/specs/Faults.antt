@@ -11,6 +11,7 @@ use Rattle.model.specs.declared.fault.Layer.{Layer}
 use Rattle.model.specs.declared.fault.Layer.the-variants.{Image, Schema, Request, Entity, Walk}
 use Rattle.model.specs.declared.fault.Fault.{Fault}
 
+-- the number of a refusal
 abbrev pub refusalNumber : Refusal → ℕ
 refusalNumber Malformed = 1
 refusalNumber Limit = 2
@@ -23,6 +24,7 @@ refusalNumber Full = 11
 refusalNumber NotStored = 12
 refusalNumber IllTypedWalk = 13
 
+-- the number of a layer
 abbrev pub layerNumber : Layer → ℕ
 layerNumber Image = 1
 layerNumber Schema = 2
@@ -62,9 +64,11 @@ abbrev pub keep-least : Option Fault → Fault → Option Fault
 keep-least None f = Some f
 keep-least (Some g) f = Some (stands g f)
 
+-- the least of some faults and of one found before
 abbrev pub least-with : Option Fault → List Fault → Option Fault
 least-with kept [] = kept
 least-with kept (f ∷ fs) = least-with (keep-least kept f) fs
 
+-- the least of some faults, where there is one
 abbrev pub least : List Fault → Option Fault
 least fs = least-with None fs

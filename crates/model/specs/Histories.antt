@@ -48,6 +48,7 @@ pub record Making : Type 0 where
   pub sizes : Sizes
   pub buffer : ℕ
 
+-- the setting that a make leaves, once its request is read
 abbrev pub setting : Making → Request → Setting
 setting m r = record { schema = m .schema; request-type = m .request-type; request = r; sizes = m .sizes }
 

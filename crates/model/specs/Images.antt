@@ -23,9 +23,11 @@ use Rattle.model.specs.Faults.{placed, least}
 use Rattle.model.specs.Entities.{Entity, entity-run}
 use Rattle.model.specs.Stores.{run-faults, entities-of}
 
+-- the number of entities that the header announces
 abbrev pub entity-count : List ℕ → ℕ
 entity-count bs = u32-at bs 0
 
+-- the number of nodes that the header announces
 abbrev pub node-count : List ℕ → ℕ
 node-count bs = u32-at bs 4
 
@@ -33,6 +35,7 @@ node-count bs = u32-at bs 4
 abbrev pub entry-offset : ℕ → ℕ
 entry-offset k = 16 + k * 4
 
+-- the index of the first node of the run k
 abbrev pub first-node : List ℕ → ℕ → ℕ
 first-node bs k = u32-at bs (entry-offset k)
 
@@ -65,6 +68,7 @@ entry bs v k = in-turn (
     ∷ laid-out (ltb (first-node bs k) v) (entry-offset k)
     ∷ [])
 
+-- every entry of the place list is there and sound
 abbrev pub place-list : List ℕ → ℕ → ℕ → Checked
 place-list bs e v = each (entry bs v) e 0
 
@@ -72,6 +76,7 @@ place-list bs e v = each (entry bs v) e 0
 abbrev pub node-there : List ℕ → ℕ → ℕ → Checked
 node-there bs e j = laid-out (ltb 0 e && within bs (node-offset e j) 24) (node-offset e j)
 
+-- every announced node is there
 abbrev pub nodes-there : List ℕ → ℕ → ℕ → Checked
 nodes-there bs e v = each (node-there bs e) v 0
 
@@ -102,9 +107,11 @@ image-node bs j = node-at bs (node-offset (entity-count bs) j)
 abbrev pub whole-nodes : List ℕ → ℕ
 whole-nodes bs = min (node-count bs) ((length bs - node-offset (entity-count bs) 0) / 24)
 
+-- the nodes of an image that are wholly there
 abbrev pub image-nodes : List ℕ → List Node
 image-nodes bs = map (image-node bs) (counting 0 (whole-nodes bs))
 
+-- the entries of the place list
 abbrev pub place-entries : List ℕ → List ℕ
 place-entries bs = map (first-node bs) (counting 0 (entity-count bs))
 
@@ -112,6 +119,7 @@ place-entries bs = map (first-node bs) (counting 0 (entity-count bs))
 abbrev pub at-offset : List ℕ → ℕ → ℕ → Refusal → Fault
 at-offset bs k p r = placed r Image (node-offset (entity-count bs) (first-node bs k + p - 1))
 
+-- the fault of a check, if it found one
 abbrev pub fault-of : Checked → List Fault
 fault-of (Ok u) = []
 fault-of (Err f) = f ∷ []
@@ -123,6 +131,7 @@ node-faults bs =
     ++ (fault-of (ends bs (entity-count bs) (node-count bs))
     ++ (fault-of (counts (entity-count bs) (node-count bs)) ++ run-faults (at-offset bs) (image-nodes bs) (place-entries bs)))
 
+-- the fault of a check stands alone; else the rest decides
 abbrev pub unless-broken : Checked → Option Fault → Option Fault
 unless-broken (Ok u) rest = rest
 unless-broken (Err f) rest = Some f
@@ -141,6 +150,7 @@ pub record View : Type 0 where
   pub bytes : List ℕ
   pub offset : ℕ
 
+-- the view of the node at an offset
 abbrev pub view-at : List ℕ → ℕ → View
 view-at bs offset = record { kind = u32-at bs offset; bytes = take 24 (drop offset bs); offset = offset }
 
@@ -155,14 +165,17 @@ abbrev pub low-bytes : ℕ → ℕ → List ℕ
 low-bytes zero v = []
 low-bytes (suc n) v = v % 256 ∷ low-bytes n (v / 256)
 
+-- the 24 bytes of a node
 abbrev pub node-bytes : Node → List ℕ
 node-bytes n =
     low-bytes 4 (n .kind) ++ (low-bytes 4 (n .field) ++ (low-bytes 4 (n .a) ++ (low-bytes 4 (n .b) ++ low-bytes 8 (ofZ w64 (n .number)))))
 
+-- the bytes of each thing of a list, in turn
 abbrev pub joined : {X : Type 0} → (X → List ℕ) → List X → List ℕ
 joined f [] = []
 joined f (x ∷ xs) = f x ++ joined f xs
 
+-- the runs of some entities, in turn
 abbrev pub entity-runs : List Entity → List Node
 entity-runs [] = []
 entity-runs (e ∷ es) = entity-run e ++ entity-runs es

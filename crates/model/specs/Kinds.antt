@@ -10,6 +10,7 @@ use Rattle.model.specs.declared.kind.TypeKind.the-variants as type
 use Rattle.model.specs.declared.kind.ExtensionKind.{ExtensionKind}
 use Rattle.model.specs.declared.kind.ExtensionKind.the-variants.{Decimal, Ipaddr, Datetime, Duration}
 
+-- the number of a kind of value
 abbrev pub valueNumber : ValueKind → ℕ
 valueNumber value.Bool = 1
 valueNumber value.Long = 2
@@ -19,6 +20,7 @@ valueNumber value.Set = 5
 valueNumber value.Record = 6
 valueNumber value.Extension = 7
 
+-- the code of an extension type
 abbrev pub extensionCode : ExtensionKind → ℕ
 extensionCode Decimal = 1
 extensionCode Ipaddr = 2

@@ -21,6 +21,7 @@ abbrev pub signed-below : ℕ → ℤ → Bool
 signed-below m (pos n) = ltb n m
 signed-below m (negsuc n) = false
 
+-- whether a signed number is 0
 abbrev pub is-zero : ℤ → Bool
 is-zero z = signed-below 1 z
 
@@ -28,6 +29,7 @@ is-zero z = signed-below 1 z
 abbrev pub is-name : ℕ → Bool
 is-name n = ltb n 65536
 
+-- in a slot of a field or tag the name is in range
 abbrev pub name-kept : Slot → Node → Bool
 name-kept s n = cond (is-named s) (is-name (n .field)) true
 
@@ -53,9 +55,11 @@ value-kept n =
     (cond (eqb (n .kind) 5) (leb (n .a) 256)
     (cond (eqb (n .kind) 6) (leb (n .a) 64) true)))
 
+-- how many children a node of a value has: the elements of a set, the fields of a record
 abbrev pub value-arity : Node → ℕ
 value-arity n = cond (eqb (n .kind) 5 || eqb (n .kind) 6) (n .a) 0
 
+-- the layout of values
 abbrev pub values : Layout
 values = record {
   takes = λ s n. fills s (eqb (n .kind) 6) (eqb (n .kind) 4) n && value-node n;
@@ -74,13 +78,16 @@ type-node n =
 abbrev pub type-number : Slot → Node → Bool
 type-number s n = cond (is-named s) (signed-below 2 (n .number)) (is-zero (n .number))
 
+-- the name of an entity type is below 65,536; at most 64 fields
 abbrev pub type-kept : Node → Bool
 type-kept n =
     cond (eqb (n .kind) 6) (is-name (n .a)) (cond (eqb (n .kind) 12 || eqb (n .kind) 13) (leb (n .a) 64) true)
 
+-- how many children a node of a type has: one of a set, the fields of a record
 abbrev pub type-arity : Node → ℕ
 type-arity n = cond (eqb (n .kind) 10) 1 (cond (eqb (n .kind) 12 || eqb (n .kind) 13) (n .a) 0)
 
+-- the layout of types
 abbrev pub types : Layout
 types = record {
   takes = λ s n. fills s (eqb (n .kind) 12 || eqb (n .kind) 13) false n && (type-node n && type-number s n);

@@ -38,9 +38,11 @@ pub record Setting : Type 0 where
 abbrev pub afresh : Setting → List Entity → SymEnv
 afresh g es = from-concrete-env (g .schema) (g .request-type) (g .request) es
 
+-- the terms of the environment built afresh from a list
 abbrev pub parts : Setting → List Entity → List Part
 parts g es = build-parts (g .schema) (g .request-type) (g .request) es
 
+-- the records that the environment built afresh from a list takes
 abbrev pub in-use : Setting → List Entity → ℕ
 in-use g es = records-taken (parts g es)
 
@@ -74,6 +76,7 @@ put-full g es e =
 abbrev pub put-breaks : Schema → Entity → Option ℕ
 put-breaks s e = cond (is-standard s (e .uid .0)) (entity-breaks s e) (Some 1)
 
+-- what a put refuses of an entity that can be read: 9, 10 and 11
 abbrev pub read-put-fault : Setting → List Entity → Entity → Option Fault
 read-put-fault g es e =
     or-else (mapped (λ p. ofEntity UnableToSymbolizeValue 0 p) (entity-without-rule (g .schema) e))
@@ -102,6 +105,7 @@ pub data Call : Type 0 where
   remove : (uid : Uid) → Call
   walk : (root : Root) (steps : List Step) (types terms : ℕ) → Call
 
+-- the answer of a call
 pub data Answer : Type 0 where
   accepted : Answer
   refused : Fault → Answer
@@ -109,18 +113,22 @@ pub data Answer : Type 0 where
   gives : TermTy → Term → Answer
   absent : (step : ℕ) → Answer
 
+-- accepted, unless there is a fault
 abbrev pub by-fault : Option Fault → Answer
 by-fault None = accepted
 by-fault (Some f) = refused f
 
+-- the answer of a walk whose type is foretold
 abbrev pub walked : TermTy → Found Term → Answer
 walked a (Ok t) = gives a t
 walked a (Err k) = absent k
 
+-- the answer of a walk, refused where a step does not go with its type
 abbrev pub foretold-answer : Result TermTy ℕ → Found Term → Answer
 foretold-answer (Ok a) w = walked a w
 foretold-answer (Err k) w = refused (placed IllTypedWalk walk-layer k)
 
+-- the answer of a walk, refused where there is a fault
 abbrev pub walk-answer : Option Fault → Result TermTy ℕ → Found Term → Answer
 walk-answer None a w = foretold-answer a w
 walk-answer (Some f) a w = refused f
@@ -132,10 +140,12 @@ answer g es (remove u) = by-fault (remove-fault g es u)
 answer g es (walk root steps types terms) =
     walk-answer (walk-fault (g .schema) (g .request-type) types terms root steps) (foretold (g .schema) (g .request-type) root steps) (walk-in (g .schema) (g .request-type) (g .request) es root steps)
 
+-- the list with the entity of a run, if the run can be read
 abbrev pub put-read : Result Entity Refused → List Entity → List Entity
 put-read (Ok e) es = with-entity e es
 put-read (Err x) es = es
 
+-- the list after a call that is accepted, and the one before it if the call is refused
 abbrev pub unless-refused : Option Fault → List Entity → List Entity → List Entity
 unless-refused None after es = after
 unless-refused (Some f) after es = es

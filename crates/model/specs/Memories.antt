@@ -24,6 +24,7 @@ abbrev pub occurrences : ℕ → List ℕ → ℕ
 occurrences k [] = 0
 occurrences k (p ∷ ps) = cond (eqb k p) 1 0 + occurrences k ps
 
+-- the places of all terms together
 abbrev pub all-places : List (List ℕ) → List ℕ
 all-places [] = []
 all-places (ps ∷ rest) = ps ++ all-places rest

@@ -26,6 +26,7 @@ abbrev pub any : {X : Type 0} → (X → Bool) → List X → Bool
 any p [] = false
 any p (x ∷ xs) = cond (p x) true (any p xs)
 
+-- what a function makes of a thing, where there is one
 abbrev pub mapped : {X Y : Type 0} → (X → Y) → Option X → Option Y
 mapped f None = None
 mapped f (Some x) = Some (f x)

@@ -10,6 +10,7 @@ use Rattle.std.specs.Orderings.{thenBy}
 use Rattle.std.specs.declared.cmp.Ordering.{Ordering}
 use Rattle.std.specs.declared.cmp.Ordering.the-variants.{Less, Equal, Greater}
 
+-- natural numbers
 abbrev pub by-number : ℕ → ℕ → Ordering
 by-number m n = cond (ltb m n) Less (cond (eqb m n) Equal Greater)
 

@@ -27,9 +27,11 @@ pub record Rest : Type 0 where
   pub place : ℕ
   pub passed : Option ℕ
 
+-- what is read from a run and what is left of it, or the refusal
 abbrev pub Read : Type 0 → Type 0
 Read X = Result (X × Rest) Refused
 
+-- one reading, and then another on what is left
 abbrev pub and-then : {X Y : Type 0} → Read X → (X → Rest → Read Y) → Read Y
 and-then (Ok x) f = f (x .0) (x .1)
 and-then (Err e) f = Err e
@@ -39,6 +41,7 @@ abbrev pub earlier : Option ℕ → ℕ → ℕ
 earlier None p = p
 earlier (Some q) p = q
 
+-- the first node so far that passed a limit, the node p included
 abbrev pub note : Option ℕ → Bool → ℕ → Option ℕ
 note passed keeps p = cond keeps passed (Some (earlier passed p))
 
@@ -51,6 +54,7 @@ judged l deep s r (n ∷ ns) =
     (Ok (n, record { nodes = ns; place = r .place + 1; passed = note (r .passed) (l .keeps s n) (r .place) })))
     (Err (Malformed, r .place))
 
+-- the next node of what is left of a run
 abbrev pub read-node : Layout → Bool → Slot → Rest → Read Node
 read-node l deep s r = judged l deep s r (r .nodes)
 
@@ -66,9 +70,11 @@ read-tree l zero s r = and-then (read-node l true s r) (λ n r′. Ok (tree n no
 read-tree l (suc room) s r =
     and-then (read-node l false s r) (λ n r′. and-then (read-trees (read-tree l room) (l .arity n) (l .inside n) r′) (λ ts r″. Ok (tree n ts, r″)))
 
+-- a whole run, before its first node is read
 abbrev pub start : List Node → Rest
 start run = record { nodes = run; place = 1; passed = None }
 
+-- what was read, unless a node passed a limit
 abbrev pub unless-passed : {X : Type 0} → Option ℕ → X → Result X Refused
 unless-passed None x = Ok x
 unless-passed (Some p) x = Err (Limit, p)
@@ -78,6 +84,7 @@ abbrev pub ended : {X : Type 0} → List Node → Rest → X → Result X Refuse
 ended [] r x = unless-passed (r .passed) x
 ended (n ∷ ns) r x = Err (Malformed, r .place)
 
+-- what was read, if it is the whole run and no node passed a limit
 abbrev pub whole : {X : Type 0} → Read X → Result X Refused
 whole (Ok x) = ended (x .1 .nodes) (x .1) (x .0)
 whole (Err e) = Err e

@@ -16,6 +16,7 @@ Uid = ℕ × ℕ
 abbrev pub uid-below : Uid → Uid → Bool
 uid-below u v = ltb (u .0) (v .0) || (eqb (u .0) (v .0) && ltb (u .1) (v .1))
 
+-- whether a slot is that of a field or tag, whose node carries a name
 abbrev pub is-named : Slot → Bool
 is-named Plain = false
 is-named (Named before) = true
@@ -23,10 +24,12 @@ is-named ARecord = false
 is-named AUid = false
 is-named (Ancestor before) = false
 
+-- a name is above the one before, if there is one
 abbrev pub name-follows : Option ℕ → ℕ → Bool
 name-follows None name = true
 name-follows (Some m) name = ltb m name
 
+-- a uid is above the one before, if there is one
 abbrev pub uid-follows : Option Uid → Uid → Bool
 uid-follows None u = true
 uid-follows (Some v) u = uid-below v u

@@ -26,6 +26,7 @@ Uids-ascend [] = Unit {0}
 Uids-ascend (e ∷ []) = Unit {0}
 Uids-ascend (e ∷ (d ∷ ds)) = (uid-below (e .uid) (d .uid) ≡ true) × Uids-ascend (d ∷ ds)
 
+-- each entity is within the limits
 abbrev pub All-formed : List Entity → Type 0
 All-formed [] = Unit {0}
 All-formed (e ∷ es) = Formed-entity e × All-formed es
@@ -35,6 +36,7 @@ abbrev pub All-fit-parts : List Node → Type 0
 All-fit-parts [] = Unit {0}
 All-fit-parts (n ∷ ns) = Fits-parts n × All-fit-parts ns
 
+-- every node of the run of every entity fits the sizes of its parts
 abbrev pub Runs-fit-parts : List Entity → Type 0
 Runs-fit-parts [] = Unit {0}
 Runs-fit-parts (e ∷ es) = All-fit-parts (entity-run e) × Runs-fit-parts es
@@ -50,6 +52,7 @@ abbrev pub entity-at : List Entity → ℕ → Option Entity
 entity-at [] i = None
 entity-at (e ∷ es) i = cond (eqb i 0) (Some e) (entity-at es (i - 1))
 
+-- 12, about the whole call: there is no such place
 abbrev pub no-such-place : Fault
 no-such-place = wholeCall NotStored entity-layer
 
@@ -58,6 +61,7 @@ abbrev pub uid-told : Option Entity → Result Uid Fault
 uid-told None = Err no-such-place
 uid-told (Some e) = Ok (e .uid)
 
+-- the uid at a place of a store, or the refusal
 abbrev pub uid-answer : List Entity → ℕ → Result Uid Fault
 uid-answer es i = uid-told (entity-at es i)
 
@@ -66,21 +70,26 @@ uid-answer es i = uid-told (entity-at es i)
 abbrev pub loaded : List Node → List Node → Result ℕ Fault × List Node
 loaded run buffer = cond (ltb (length buffer) (length run)) (Err (wholeCall Limit entity-layer), buffer) (Ok (length run), fronted run buffer)
 
+-- the answer of `load` and the buffer after it, for the entity at the place, if there is one
 abbrev pub load-told : Option Entity → List Node → Result ℕ Fault × List Node
 load-told None buffer = (Err no-such-place, buffer)
 load-told (Some e) buffer = loaded (entity-run e) buffer
 
+-- the answer of `load` for a place of a store, and the buffer after it
 abbrev pub load-answer : List Entity → ℕ → List Node → Result ℕ Fault × List Node
 load-answer es i buffer = load-told (entity-at es i) buffer
 
 -- Nodes with a list of first nodes: the run k goes from the first node k to the next, and the last to the end.
 
+-- the index of the first node of the run k
 abbrev pub first-at : List ℕ → ℕ → ℕ
 first-at fs k = getD fs k 0
 
+-- the index at which the run k ends, where there are v nodes
 abbrev pub end-at : ℕ → List ℕ → ℕ → ℕ
 end-at v fs k = cond (ltb (k + 1) (length fs)) (first-at fs (k + 1)) v
 
+-- the nodes of the run k
 abbrev pub run-at : List Node → List ℕ → ℕ → List Node
 run-at nodes fs k = take (end-at (length nodes) fs k - first-at fs k) (drop (first-at fs k) nodes)
 
@@ -98,6 +107,7 @@ first-index p (suc n) i = cond (p i) (Some i) (first-index p n (i + 1))
 abbrev pub entry-sound : ℕ → List ℕ → ℕ → Bool
 entry-sound v fs k = cond (eqb k 0) (eqb (first-at fs k) 0) (ltb (first-at fs (k - 1)) (first-at fs k)) && ltb (first-at fs k) v
 
+-- the first entry that is not sound
 abbrev pub broken-entry : ℕ → List ℕ → Option ℕ
 broken-entry v fs = first-index (λ k. not (entry-sound v fs k)) (length fs) 0
 
@@ -115,9 +125,11 @@ uid-fault at nodes fs k =
 abbrev pub faults-at : (ℕ → ℕ → Refusal → Fault) → List Node → List ℕ → ℕ → List Fault
 faults-at at nodes fs k = run-fault at k (read-entity (run-at nodes fs k)) ++ uid-fault at nodes fs k
 
+-- the faults of all runs
 abbrev pub run-faults : (ℕ → ℕ → Refusal → Fault) → List Node → List ℕ → List Fault
 run-faults at nodes fs = collected (faults-at at nodes fs) (length fs) 0
 
+-- the entity of a run, if the run can be read
 abbrev pub entity-if-read : Result Entity Refused → List Entity
 entity-if-read (Ok e) = e ∷ []
 entity-if-read (Err x) = []
@@ -138,6 +150,7 @@ abbrev pub at-node : Refusal → List ℕ → ℕ → Fault
 at-node r fs j =
     ofEntity r (run-holding j fs (length fs - 1)) (j - first-at fs (run-holding j fs (length fs - 1)) + 1)
 
+-- a fault where a test holds, and else none
 abbrev pub fault-if : Bool → Fault → List Fault
 fault-if b f = cond b (f ∷ []) []
 
@@ -147,6 +160,7 @@ table-faults nodes fs =
     fault-if (eqb (length fs) 0 && ltb 0 (length nodes)) (ofEntity Malformed 0 1)
     ++ (fault-if (ltb 1024 (length fs)) (ofEntity Limit 1024 1) ++ fault-if (ltb 65536 (length nodes)) (at-node Limit fs 65536))
 
+-- a broken entry is the fault; else the rest decides
 abbrev pub unless-entry : Option ℕ → Option Fault → Option Fault
 unless-entry (Some k) rest = Some (ofEntity Malformed k 1)
 unless-entry None rest = rest

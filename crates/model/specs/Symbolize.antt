@@ -39,9 +39,11 @@ abbrev mutual
   untakens p type.none = None
   untakens p (type.more name required of rest) = or-else (untaken p of) (untakens (p + type.size of) rest)
 
+-- the extension type of a code
 abbrev pub ext-of-code : ℕ → ExtTy
 ext-of-code c = cond (eqb c 1) decimals (cond (eqb c 2) ip (cond (eqb c 3) datetimes durations))
 
+-- the term type of a type without parts; a type that is not taken has one that nothing asks for
 abbrev pub flat-type : Flat → FlatTy
 flat-type type.bool = bool
 flat-type type.true-type = bool
@@ -59,6 +61,7 @@ flat-type (type.extension c) = extension (ext-of-code c)
 abbrev pub qualified : Bool → TermTy → TermTy
 qualified required a = cond required a (option a)
 
+-- the term type of a type, and the term types of a record's fields
 abbrev mutual
   pub term-type : Ty → TermTy
   term-type (type.flat x) = flat (flat-type x)
@@ -78,6 +81,7 @@ abbrev pub pattern-of : ℤ → ℕ
 pattern-of (pos n) = n
 pattern-of (negsuc n) = 2 ^ 64 - suc n
 
+-- the primitive term of a literal or extension value
 abbrev pub symbolize-prim : value.Primitive → TermPrim
 symbolize-prim (value.bool b) = truth b
 symbolize-prim (value.long z) = pattern (pattern-of z)
@@ -85,6 +89,7 @@ symbolize-prim (value.string s) = text s
 symbolize-prim (value.uid u) = entity-uid u
 symbolize-prim (value.ext x) = ext x
 
+-- the field of a name, where there is one
 abbrev pub field : ℕ → Values → Option Value
 field name value.none = None
 field name (value.more m of rest) = cond (eqb m name) (Some of) (field name rest)
@@ -93,20 +98,24 @@ field name (value.more m of rest) = cond (eqb m name) (Some of) (field name rest
 abbrev pub no-rule : Term
 no-rule = atom (none-of (flat bool))
 
+-- the terms of some elements
 abbrev pub each : (Value → Term) → Values → Terms
 each f value.none = no-terms
 each f (value.more name of rest) = term 0 (f of) (each f rest)
 
+-- the term of a value under a type without parts
 abbrev pub as-flat : Value → Term
 as-flat (value.prim x) = atom (prim (symbolize-prim x))
 as-flat (value.set vs) = no-rule
 as-flat (value.rec vs) = no-rule
 
+-- the term of a value under a set type, with elements of the type a
 abbrev pub as-set : TermTy → (Value → Term) → Value → Term
 as-set a f (value.prim x) = atom (prim (symbolize-prim x))
 as-set a f (value.set vs) = set-of a (each f vs)
 as-set a f (value.rec vs) = no-rule
 
+-- the term of a value under a record type
 abbrev pub as-record : (Values → Terms) → Value → Term
 as-record f (value.prim x) = atom (prim (symbolize-prim x))
 as-record f (value.set vs) = no-rule
@@ -134,21 +143,25 @@ abbrev pub first-among : (ℕ → Value → Option ℕ) → ℕ → Values → O
 first-among f p value.none = None
 first-among f p (value.more name of rest) = or-else (f p of) (first-among f (p + value.size of) rest)
 
+-- under a type without parts a set and a record have no rule
 abbrev pub rule-flat : ℕ → Value → Option ℕ
 rule-flat p (value.prim x) = None
 rule-flat p (value.set vs) = Some p
 rule-flat p (value.rec vs) = Some p
 
+-- under a set type a record has no rule, and of a set its elements decide
 abbrev pub rule-set : (ℕ → Value → Option ℕ) → ℕ → Value → Option ℕ
 rule-set f p (value.prim x) = None
 rule-set f p (value.set vs) = first-among f (p + 1) vs
 rule-set f p (value.rec vs) = Some p
 
+-- under a record type a set has no rule, and of a record its fields decide
 abbrev pub rule-record : (ℕ → Values → Option ℕ) → ℕ → Value → Option ℕ
 rule-record f p (value.prim x) = None
 rule-record f p (value.set vs) = Some p
 rule-record f p (value.rec vs) = f (p + 1) vs
 
+-- the first node without a rule in a field, if the value has it
 abbrev pub visited : (ℕ → Value → Option ℕ) → Option (ℕ × Value) → Option ℕ
 visited f None = None
 visited f (Some x) = f (x .0) (x .1)
@@ -170,20 +183,24 @@ abbrev mutual
 abbrev pub from-value : Ty → ℕ → Value → Result Term ℕ
 from-value t p v = unless (without-rule t p v) (symbolize t v)
 
+-- the needs of some values together
 abbrev pub sum-of : (Value → ℕ) → Values → ℕ
 sum-of f value.none = 0
 sum-of f (value.more name of rest) = f of + sum-of f rest
 
+-- the need of a value under a set type
 abbrev pub need-set : (Value → ℕ) → Value → ℕ
 need-set f (value.prim x) = 1
 need-set f (value.set vs) = suc (sum-of f vs)
 need-set f (value.rec vs) = 1
 
+-- the need of a value under a record type
 abbrev pub need-record : (Values → ℕ) → Value → ℕ
 need-record f (value.prim x) = 1
 need-record f (value.set vs) = 1
 need-record f (value.rec vs) = suc (f vs)
 
+-- the need of an attribute: a record for None, and one more for Some where it is optional
 abbrev pub need-attribute : Bool → (Value → ℕ) → Option Value → ℕ
 need-attribute required f None = 1
 need-attribute required f (Some v) = cond required (f v) (suc (f v))
@@ -206,6 +223,7 @@ default-ext decimals = decimal (pos 0)
 default-ext datetimes = datetime (pos 0)
 default-ext durations = duration (pos 0)
 
+-- the default primitive of a term type without parts
 abbrev pub default-prim : (ℕ → ℕ) → FlatTy → TermPrim
 default-prim least bitvec = pattern 0
 default-prim least bool = truth false
@@ -213,6 +231,7 @@ default-prim least string = text 0
 default-prim least (entity n) = entity-uid (n, least n)
 default-prim least (extension x) = ext (default-ext x)
 
+-- the default of a term type, and of a record's fields: None for Option, the empty set for a set
 abbrev mutual
   pub default-literal : (ℕ → ℕ) → TermTy → Term
   default-literal least (option a) = atom (none-of a)

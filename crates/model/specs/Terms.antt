@@ -27,12 +27,14 @@ pub data FlatTy : Type 0 where
   extension : ExtTy → FlatTy
 
 mutual
+  -- a term type: Option, a type without parts, a record or a set
   pub data TermTy : Type 0 where
     option : TermTy → TermTy
     flat : FlatTy → TermTy
     rec : TermTys → TermTy
     set : TermTy → TermTy
 
+  -- the fields of a record type, by name
   pub data TermTys : Type 0 where
     none : TermTys
     more : (name : ℕ) (of : TermTy) (rest : TermTys) → TermTys
@@ -45,9 +47,11 @@ pub data TermPrim : Type 0 where
   ext : Ext → TermPrim
   text : ℕ → TermPrim
 
+-- the variables of a symbolic request
 pub data Var : Type 0 where
   context principal resource : Var
 
+-- the terms without parts: None of a type, a primitive, a variable of a type
 pub data Atom : Type 0 where
   none-of : TermTy → Atom
   prim : TermPrim → Atom
@@ -59,6 +63,7 @@ pub data Group : Type 0 where
   elements : TermTy → Group
 
 mutual
+  -- a term: one without parts, a record or a set, or Some
   pub data Term : Type 0 where
     atom : Atom → Term
     many : Group → Terms → Term
@@ -69,6 +74,7 @@ mutual
     no-terms : Terms
     term : (name : ℕ) (of : Term) (rest : Terms) → Terms
 
+-- the record of some fields
 abbrev pub record-of : Terms → Term
 record-of ts = many fields ts
 
@@ -79,6 +85,7 @@ ext-rank decimals = pos 1
 ext-rank datetimes = pos 2
 ext-rank durations = pos 3
 
+-- the numbers by which the types without parts compare
 abbrev pub flat-key : FlatTy → List ℤ
 flat-key bitvec = pos 0 ∷ []
 flat-key bool = pos 1 ∷ []
@@ -128,6 +135,7 @@ prim-key (entity-uid u) = pos 2 ∷ (pos (u .0) ∷ (pos (u .1) ∷ []))
 prim-key (ext x) = pos 3 ∷ ext-key x
 prim-key (text s) = pos 4 ∷ (pos s ∷ [])
 
+-- the order of variables
 abbrev pub var-rank : Var → ℕ
 var-rank context = 0
 var-rank principal = 1
@@ -139,10 +147,12 @@ atom-rank (none-of a) = 0
 atom-rank (prim x) = 1
 atom-rank (var v a) = 5
 
+-- the place of records and of sets among the variants
 abbrev pub group-rank : Group → ℕ
 group-rank fields = 2
 group-rank (elements a) = 3
 
+-- the place of a term's variant
 abbrev pub rank : Term → ℕ
 rank (atom x) = atom-rank x
 rank (many g ts) = group-rank g
@@ -171,6 +181,7 @@ within-group (elements a) (elements b) = order-type a b
 abbrev pub ranked : Term → Term → Ordering → Ordering
 ranked s t inner = thenBy (by-number (rank s) (rank t)) inner
 
+-- the order of two terms within one variant, and `Equal` where their variants differ
 abbrev mutual
   pub within : Term → Term → Ordering
   within (atom x) (atom y) = within-atom x y
@@ -200,6 +211,7 @@ insert-by Less later here same = later
 insert-by Equal later here same = same
 insert-by Greater later here same = here
 
+-- a term inserted among others at its place in their order
 abbrev pub insert : Term → Terms → Terms
 insert t no-terms = term 0 t no-terms
 insert t (term m u us) = insert-by (order u t) (term m u (insert t us)) (term 0 t (term m u us)) (term m u us)
@@ -217,9 +229,11 @@ set-of a ts = many (elements a) (inserted ts no-terms)
 abbrev pub term-below : Term → Term → Bool
 term-below s t = isLt (order s t)
 
+-- whether a term type comes before another
 abbrev pub type-below : TermTy → TermTy → Bool
 type-below a b = isLt (order-type a b)
 
+-- how many fields or elements there are
 abbrev pub count : Terms → ℕ
 count no-terms = 0
 count (term m t ts) = suc (count ts)
@@ -241,6 +255,7 @@ literal-atom (none-of a) = true
 literal-atom (prim x) = true
 literal-atom (var v a) = false
 
+-- whether a term, and each of its parts, has no variables
 abbrev mutual
   pub literal : Term → Bool
   literal (atom x) = literal-atom x
@@ -251,12 +266,14 @@ abbrev mutual
   literals no-terms = true
   literals (term m t ts) = literal t && literals ts
 
+-- the type of an extension value
 abbrev pub ext-type : Ext → ExtTy
 ext-type (decimal z) = decimals
 ext-type (ipaddr address prefix) = ip
 ext-type (datetime z) = datetimes
 ext-type (duration z) = durations
 
+-- the type of a primitive
 abbrev pub prim-type : TermPrim → FlatTy
 prim-type (pattern p) = bitvec
 prim-type (truth b) = bool
@@ -264,11 +281,13 @@ prim-type (entity-uid u) = entity (u .0)
 prim-type (ext x) = extension (ext-type x)
 prim-type (text s) = string
 
+-- the type of a term without parts
 abbrev pub atom-type : Atom → TermTy
 atom-type (none-of a) = option a
 atom-type (prim x) = flat (prim-type x)
 atom-type (var v a) = a
 
+-- the type of a record with fields of these types, or of a set
 abbrev pub group-type : Group → TermTys → TermTy
 group-type fields xs = rec xs
 group-type (elements a) xs = set a
@@ -298,6 +317,7 @@ atom-node (none-of a) = plain 10 0 0 (pos 0)
 atom-node (prim x) = prim-node x
 atom-node (var v a) = plain 12 (var-rank v) 0 (pos 0)
 
+-- the node of a record or a set of n parts
 abbrev pub group-node : Group → ℕ → Node
 group-node fields n = plain 6 n 0 (pos 0)
 group-node (elements a) n = plain 5 n 0 (pos 0)
@@ -324,6 +344,7 @@ ext-code ip = 2
 ext-code datetimes = 3
 ext-code durations = 4
 
+-- the node of a term type without parts
 abbrev pub flat-type-node : FlatTy → Node
 flat-type-node bool = plain 1 0 0 (pos 0)
 flat-type-node bitvec = plain 4 0 0 (pos 0)
@@ -331,6 +352,7 @@ flat-type-node string = plain 5 0 0 (pos 0)
 flat-type-node (entity n) = plain 6 n 0 (pos 0)
 flat-type-node (extension x) = plain 9 (ext-code x) 0 (pos 0)
 
+-- how many fields a record type has
 abbrev pub type-count : TermTys → ℕ
 type-count none = 0
 type-count (more m a xs) = suc (type-count xs)

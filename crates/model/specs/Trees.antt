@@ -8,10 +8,12 @@ mutual
   pub data Tree : Type 0 where
     tree : (root : Node) (children : Trees) → Tree
 
+  -- trees in turn: the children of a node
   pub data Trees : Type 0 where
     none : Trees
     more : (first : Tree) (rest : Trees) → Trees
 
+-- the node at the root of a tree
 abbrev pub root : Tree → Node
 root (tree n ts) = n
 
@@ -24,6 +26,7 @@ abbrev mutual
   runs-of none = []
   runs-of (more t ts) = run-of t ++ runs-of ts
 
+-- how many trees there are
 abbrev pub count : Trees → ℕ
 count none = 0
 count (more t ts) = suc (count ts)
@@ -42,6 +45,7 @@ abbrev mutual
   pub nesting : Tree → ℕ
   nesting (tree n ts) = suc (nestings ts)
 
+  -- how deep the deepest of some trees nests
   pub nestings : Trees → ℕ
   nestings none = 0
   nestings (more t ts) = max (nesting t) (nestings ts)

@@ -19,6 +19,7 @@ pub data Flat : Type 0 where
   extension : ℕ → Flat
 
 mutual
+  -- a type: one without parts, a set of elements of a type, or a record, open or closed
   pub data Ty : Type 0 where
     flat : Flat → Ty
     set : (element : Ty) → Ty
@@ -29,6 +30,7 @@ mutual
     none : Tys
     more : (name : ℕ) (required : Bool) (of : Ty) (rest : Tys) → Tys
 
+-- how many fields there are
 abbrev pub count : Tys → ℕ
 count none = 0
 count (more name required of rest) = suc (count rest)
@@ -49,6 +51,7 @@ abbrev pub field : ℕ → Tys → Option (Bool × Ty)
 field name none = None
 field name (more m required of rest) = cond (eqb m name) (Some (required, of)) (field name rest)
 
+-- the kind of the node of a type without parts
 abbrev pub flat-kind : Flat → ℕ
 flat-kind bool = 1
 flat-kind true-type = 2
@@ -62,6 +65,7 @@ flat-kind never = 14
 flat-kind (entity n) = 6
 flat-kind (extension c) = 9
 
+-- what that node has in a: the name of an entity type, the code of an extension type, else 0
 abbrev pub flat-part : Flat → ℕ
 flat-part bool = 0
 flat-part true-type = 0
@@ -79,6 +83,7 @@ flat-part (extension c) = c
 abbrev pub type-node : (kind a name : ℕ) → Bool → Node
 type-node kind a name required = record { kind = kind; field = name; a = a; b = 0; number = pos (cond required 1 0) }
 
+-- a type as a tree, whose root carries the name of the field that it is, or 0, and whether it is required
 abbrev mutual
   pub tree-of : ℕ → Bool → Ty → Tree
   tree-of f q (flat x) = tree (type-node (flat-kind x) (flat-part x) f q) trees.none
@@ -93,6 +98,7 @@ abbrev mutual
 abbrev pub encode : Ty → List Node
 encode t = run-of (tree-of 0 false t)
 
+-- the type without parts that a node stands for
 abbrev pub flat-of : Node → Flat
 flat-of n =
     cond (eqb (n .kind) 1) bool (cond (eqb (n .kind) 2) true-type (cond (eqb (n .kind) 3) false-type
@@ -100,10 +106,12 @@ flat-of n =
     (cond (eqb (n .kind) 7) any-entity (cond (eqb (n .kind) 8) entities (cond (eqb (n .kind) 9) (extension (n .a))
     (cond (eqb (n .kind) 11) any-set never)))))))))
 
+-- the element type of a set: the first of its children
 abbrev pub first-type : Tys → Ty
 first-type none = flat never
 first-type (more name required of rest) = of
 
+-- the set or record type of a kind with these children, or the type x without parts
 abbrev pub grouped : ℕ → Tys → Ty → Ty
 grouped kind ts x =
     cond (eqb kind 10) (set (first-type ts)) (cond (eqb kind 12) (rec false ts) (cond (eqb kind 13) (rec true ts) x))
@@ -137,6 +145,7 @@ flat-names never = []
 flat-names (entity n) = n ∷ []
 flat-names (extension c) = []
 
+-- the entity types that a type names, and those that a record's fields name
 abbrev mutual
   pub names : Ty → List ℕ
   names (flat x) = flat-names x

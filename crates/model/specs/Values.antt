@@ -29,6 +29,7 @@ pub data Primitive : Type 0 where
   ext : Ext → Primitive
 
 mutual
+  -- a value: a literal or an extension value, a set or a record
   pub data Value : Type 0 where
     prim : Primitive → Value
     set : (elements : Values) → Value
@@ -39,6 +40,7 @@ mutual
     none : Values
     more : (name : ℕ) (of : Value) (rest : Values) → Values
 
+-- how many fields or elements there are
 abbrev pub count : Values → ℕ
 count none = 0
 count (more name of rest) = suc (count rest)
@@ -63,15 +65,18 @@ field-at name p (more m of rest) = cond (eqb m name) (Some (p, of)) (field-at na
 abbrev pub prefix-part : ℕ → ℕ
 prefix-part p = cond (eqb p 32) 0 (suc p)
 
+-- the node of an extension value
 abbrev pub ext-node : Ext → Node
 ext-node (decimal z) = plain 7 1 0 z
 ext-node (ipaddr address prefix) = plain 7 2 (prefix-part prefix) (pos address)
 ext-node (datetime z) = plain 7 3 0 z
 ext-node (duration z) = plain 7 4 0 z
 
+-- the node of a uid
 abbrev pub uid-node : Uid → Node
 uid-node u = plain 4 (u .0) (u .1) (pos 0)
 
+-- the node of a literal or an extension value
 abbrev pub prim-node : Primitive → Node
 prim-node (bool b) = plain 1 0 0 (pos (cond b 1 0))
 prim-node (long z) = plain 2 0 0 z
@@ -94,30 +99,36 @@ abbrev mutual
 abbrev pub encode : ℕ → Value → List Node
 encode f v = run-of (tree-of f v)
 
+-- whether a signed number is 1
 abbrev pub is-one : ℤ → Bool
 is-one (pos n) = eqb n 1
 is-one (negsuc n) = false
 
+-- a signed number without its sign
 abbrev pub magnitude : ℤ → ℕ
 magnitude (pos n) = n
 magnitude (negsuc n) = suc n
 
+-- the prefix of an address that has this in b
 abbrev pub prefix-of : ℕ → ℕ
 prefix-of zero = 32
 prefix-of (suc p) = p
 
+-- the extension value that a node stands for
 abbrev pub ext-of : Node → Ext
 ext-of n =
     cond (eqb (n .a) 1) (decimal (n .number))
     (cond (eqb (n .a) 2) (ipaddr (magnitude (n .number)) (prefix-of (n .b)))
     (cond (eqb (n .a) 3) (datetime (n .number)) (duration (n .number))))
 
+-- the literal or extension value that a node stands for
 abbrev pub prim-of : Node → Primitive
 prim-of n =
     cond (eqb (n .kind) 1) (bool (is-one (n .number)))
     (cond (eqb (n .kind) 2) (long (n .number))
     (cond (eqb (n .kind) 3) (string (n .a)) (cond (eqb (n .kind) 4) (uid (n .a, n .b)) (ext (ext-of n)))))
 
+-- the set or record of a kind with these parts, or the value x without parts
 abbrev pub grouped : ℕ → Values → Value → Value
 grouped kind vs x = cond (eqb kind 5) (set vs) (cond (eqb kind 6) (rec vs) x)
 

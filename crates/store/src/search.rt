@@ -1,6 +1,6 @@
 ghost use mathlib.Core.Path.{_≡_};
 ghost use Rattle.model.specs.Slots.{uid-below};
-ghost use Rattle.store.specs.Places.{place-of as placeOf};
+ghost use Rattle.store.specs.Places.{place-of as listedPlace};
 use crate::store::Store;
 use model::node::Uid;
 
@@ -13,7 +13,7 @@ pub(crate) fn below(u: Uid, v: Uid) -> bool
 
 // The place of a uid in a store, by halves: its uids ascend.
 pub fn place_of<S: Store>(store: &S, uid: Uid) -> Option<usize>
-    ensures { λ r. ⌜ r ≡ placeOf (S·Store .entities (now (store .entry))) uid ⌝ }
+    ensures { λ r. ⌜ r ≡ listedPlace (S·Store .entities (now (store .entry))) uid ⌝ }
 {
     let mut low = 0;
     let mut high = store.count();
