@@ -1,3 +1,5 @@
-// The image of a store: its bytes, header and place list.
+//! The image of a store: its bytes, header and place list.
+#![tactic(auto)]
+
 pub mod bytes;
 pub mod frame;

@@ -1,4 +1,6 @@
-// Theorems about the definitions of the product, each on the contract of a function.
+//! Theorems about the definitions of the product, each on the contract of a function.
+#![tactic(auto)]
+
 pub mod cases;
 pub mod history;
 pub mod need;

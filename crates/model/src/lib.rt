@@ -1,4 +1,6 @@
-// The vocabulary of the product, and in specs/ what its words mean.
+//! The vocabulary of the product, and in specs/ what its words mean.
+#![tactic(auto)]
+
 pub mod fault;
 pub mod kind;
 pub mod limits;

@@ -1,4 +1,6 @@
-// Reading runs of nodes: whether a run is that of a type, a value, a request or an entity, and where a value lies in one.
+//! Reading runs of nodes: whether a run is that of a type, a value, a request or an entity, and where a value lies in one.
+#![tactic(auto)]
+
 pub mod check;
 pub mod find;
 mod head_node;

@@ -1,4 +1,6 @@
-// Stores of entities: what they answer, and generic code over any of them.
+//! Stores of entities: what they answer, and generic code over any of them.
+#![tactic(auto)]
+
 pub(crate) mod cut;
 pub(crate) mod faults;
 pub mod open;

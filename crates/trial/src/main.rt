@@ -1,5 +1,7 @@
-// trial IMAGE NAMES: takes the nodes of an image into a table, lists its entities in Cedar's notation, and then says how
-// the same image is refused with its last byte cut off.
+//! trial IMAGE NAMES: takes the nodes of an image into a table, lists its entities in Cedar's notation, and then says how
+//! the same image is refused with its last byte cut off.
+#![tactic(auto)]
+
 mod listing;
 mod names;
 mod notation;

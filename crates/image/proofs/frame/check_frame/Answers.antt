@@ -15,7 +15,7 @@ broken bs h f p q =
     let e : Err f ≡ body bs (announced bs).entities (announced bs).nodes = q ∙ ap (λ (k : Header). body bs k.entities k.nodes) a.1 in
     ap (λ c. after c (announced bs)) (e ∙ ap (λ c. then c (body bs (announced bs).entities (announced bs).nodes)) (sym a.0))
 
-pub returns-in-err-check-body : goal.returns-in-err-check-body
-returns-in-err-check-body c =
-    let p = err_from_is_err_and c.from-residual-in-err-check-body.result c.from-residual-in-err-check-body.ensures.1 in
-    rw (p.1, p.2) (broken _ _ _ c.in-ok-header.ensures c.in-err-check-body.ensures)
+pub returns-in_err-check_body : goal.returns-in_err-check_body
+returns-in_err-check_body c =
+    let p = err_from_is_err_and c.from_residual-in_err-check_body.result c.from_residual-in_err-check_body.ensures.1 in
+    rw (p.1, p.2) (broken _ _ _ c.in_ok-header.ensures c.in_err-check_body.ensures)

@@ -4,6 +4,6 @@ use Rattle.run.proofs.find.child.Goals as goal
 
 pub returns : goal.returns
 returns c = record {
-  is = c.field-of.ensures;
-  field = λ s f vs rest fit lies. c.field-of.ensures ∙ field_is c.args.run.now c.args.name c.args.at s f vs rest fit lies;
+  is = c.field_of.ensures;
+  field = λ s f vs rest fit lies. c.field_of.ensures ∙ field_is c.args.run.now c.args.name c.args.at s f vs rest fit lies;
 }

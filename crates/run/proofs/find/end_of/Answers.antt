@@ -8,8 +8,8 @@ loop-open-preserved c =
     let there : c.loop-open.place < length c.args.run.now = omega arith in
     pass_on c.args.run.now c.loop-open.place c.loop-open.open c.loop-open.invariant c.arity.result c.loop-open-test.true there c.arity.ensures
 
-pub returns-then-saturating-sub-open : goal.returns-then-saturating-sub-open
-returns-then-saturating-sub-open c =
+pub returns-then-saturating_sub-open : goal.returns-then-saturating_sub-open
+returns-then-saturating_sub-open c =
     let short : length c.args.run.now - c.loop-open.place < c.loop-open.open = omega arith in
     let e = pass_out c.args.run.now c.loop-open.place c.loop-open.open c.loop-open.invariant short in
     record { is = e; tree = λ s t rest f lies. e ∙ passes_one c.args.run.now c.args.at s t rest f lies }

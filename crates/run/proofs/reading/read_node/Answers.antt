@@ -10,16 +10,16 @@ returns-then-rest-run c = record {
   within = tt;
 }
 
-pub returns-in-err-passed : goal.returns-in-err-passed
-returns-in-err-passed c =
-    let p = err_from_is_err_and c.from-residual.result c.from-residual.ensures.1 in
+pub returns-in_err-passed : goal.returns-in_err-passed
+returns-in_err-passed c =
+    let p = err_from_is_err_and c.from_residual.result c.from_residual.ensures.1 in
     rw (p.1, p.2) (record {
-      is = there (layout_of c.args.language) c.args.deep c.args.slot c.args.run.now c.args.rest (Err c.in-err-passed.field-0.0) c.if-rest-run.false c.in-err-passed.ensures;
+      is = there (layout_of c.args.language) c.args.deep c.args.slot c.args.run.now c.args.rest (Err c.in_err-passed.field-0.0) c.if-rest-run.false c.in_err-passed.ensures;
       within = tt;
     })
 
 pub returns : goal.returns
 returns c = record {
-  is = there (layout_of c.args.language) c.args.deep c.args.slot c.args.run.now c.args.rest (Ok c.in-ok-passed.passed) c.if-rest-run.false c.in-ok-passed.ensures;
+  is = there (layout_of c.args.language) c.args.deep c.args.slot c.args.run.now c.args.rest (Ok c.in_ok-passed.passed) c.if-rest-run.false c.in_ok-passed.ensures;
   within = omega arith;
 }

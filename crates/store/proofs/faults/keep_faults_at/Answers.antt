@@ -11,6 +11,6 @@ returns c =
     let ns = c.args.nodes.now in
     let fs = c.args.firsts.now in
     let k = c.args.k in
-    c.keep-uid-fault.ensures
-    ∙ (ap (λ o. least_with o (uid_fault fault_of_entity ns fs k)) (c.keep-run-fault-kept.ensures ∙ ap (λ run. least_with c.args.kept (run_fault fault_of_entity k (read_entity run))) c.run_at.ensures.is)
+    c.keep_uid_fault.ensures
+    ∙ (ap (λ o. least_with o (uid_fault fault_of_entity ns fs k)) (c.keep_run_fault-kept.ensures ∙ ap (λ run. least_with c.args.kept (run_fault fault_of_entity k (read_entity run))) c.run_at.ensures.is)
     ∙ keeps_both (run_fault fault_of_entity k (read_entity (run_at ns fs k))) (uid_fault fault_of_entity ns fs k) c.args.kept)

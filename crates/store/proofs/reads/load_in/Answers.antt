@@ -8,12 +8,12 @@ pub returns-then-place-firsts : goal.returns-then-place-firsts
 returns-then-place-firsts c =
     let e = load_nowhere _ _ c.requires c.args.place c.args.buffer.now c.if-place-firsts.true in
     record {
-      answer = ap Err c.whole-call.ensures ∙ sym (ap (λ x. x.0) e);
+      answer = ap Err c.whole_call.ensures ∙ sym (ap (λ x. x.0) e);
       written = sym (ap (λ x. x.1) e);
     }
 
-pub run-at-requires : goal.run-at-requires
-run-at-requires c = (sound _ _ (tabled c.args.nodes.now c.args.firsts.now c.requires).entries, c.if-place-firsts.false)
+pub run_at-requires : goal.run_at-requires
+run_at-requires c = (sound _ _ (tabled c.args.nodes.now c.args.firsts.now c.requires).entries, c.if-place-firsts.false)
 
 pub returns : goal.returns
 returns c =

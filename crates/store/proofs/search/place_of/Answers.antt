@@ -22,10 +22,10 @@ returns-else-below-2 g c =
 pub returns : goal.returns
 returns g c = misses _ _ (g.S.Store.lawful c.args.store.now).ascending c.loop-low.low c.loop-low.high c.loop-low.invariant (omega arith)
 
-pub returns-in-default : goal.returns-in-default
-returns-in-default g c =
+pub returns-in_default : goal.returns-in_default
+returns-in_default g c =
     let es = g.S.Store.entities c.args.store.now in
     let m = c.loop-low.low + (c.loop-low.high - c.loop-low.low) / 2 in
     let high = c.loop-low.invariant.1 in
     let l : m < length es = omega arith in
-    absurd (always_told es c.args.uid (g.S.Store.lawful c.args.store.now).ascending m c.in-default.field-0 l c.in-default.ensures)
+    absurd (always_told es c.args.uid (g.S.Store.lawful c.args.store.now).ascending m c.in_default.field-0 l c.in_default.ensures)
