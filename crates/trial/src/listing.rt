@@ -15,7 +15,7 @@ pub struct Listing<'a> {
 
 fn broken(heap: Global, j: usize) -> anyhow::Error {
     match format!(in heap; "the node {j} is none of an entity") {
-        Ok(text) => text.into(),
+        Ok(text) => anyhow!(text),
         Err(e) => e.into(),
     }
 }

@@ -29,7 +29,7 @@ fn help(rt: &HostRuntime) -> io::Result<()> {
 // What is at fault, for whoever reads the message.
 fn at_fault(rt: &HostRuntime, what: &str, why: impl std::fmt::Display + Drop) -> anyhow::Error {
     match format!(in rt.alloc(); "{what}: {why}") {
-        Ok(text) => text.into(),
+        Ok(text) => anyhow!(text),
         Err(e) => e.into(),
     }
 }
