@@ -14,6 +14,7 @@ use model::limits;
 use model::node::Node;
 use names::Names;
 use std::alloc::Global;
+use std::process::ExitCode;
 use std::{env, fs, io};
 use store::store::Store;
 use store::table::NodeTable;
@@ -142,10 +143,12 @@ fn run(rt: &HostRuntime) -> anyhow::Result<()> {
     }
 }
 
-fn main(rt: HostRuntime) -> anyhow::Result<()> {
-    let result = run(&rt);
-    if let Err(e) = &result {
-        let _ = eprintln!(rt; "trial: {e}");
+fn main(rt: HostRuntime) -> ExitCode {
+    match run(&rt) {
+        Ok(()) => ExitCode::SUCCESS,
+        Err(e) => {
+            let _ = eprintln!(rt; "trial: {e}");
+            ExitCode::FAILURE
+        }
     }
-    result
 }
