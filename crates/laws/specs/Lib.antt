@@ -1,7 +1,9 @@
 pub mod HistoryLaws
+pub mod ImageLaws
 pub mod NeedLaws
 pub mod OrderLaws
 pub mod RunLaws
 pub mod Samples
+pub mod TableLaws
 pub mod WalkLaws
 pub mod WorkedCases

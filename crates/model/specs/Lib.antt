@@ -25,3 +25,4 @@ pub mod Trees
 pub mod Types
 pub mod Values
 pub mod Walks
+pub mod Writing

@@ -1,5 +1,5 @@
 -- A check by a reading that reads the runs of what is formed, and no other, is exact.
-use Rattle.std.proofs.Common.{◌≡◌, ℕ, List, Ok, Err, Result, sym, refl, ap, ◌∙◌, arith}
+use Rattle.std.proofs.Common.{◌≡◌, ℕ, List, IfErr, Ok, Err, Result, sym, refl, ap, ◌∙◌, subst, arith}
 use Rattle.model.specs.declared.node.Node.{Node}
 use Rattle.model.specs.declared.slot.Slot.{Slot}
 use Rattle.model.specs.Trees.{run_of}
@@ -33,3 +33,8 @@ entity_exact = exact FormedEntity entity_run read_entity entities_read.every ent
 
 pub request_exact : (run : List Node) (r : Verdict) → r ≡ verdict (read_request run) → Exact FormedRequest request_run run r
 request_exact = exact FormedRequest request_run read_request requests_read.every requests_read.only
+
+-- what holds of every refusal of a reading holds of the verdict's
+pub refused_of : {X : Type 0} (o : Result X Refused) (r : Verdict) → r ≡ verdict o → (P : Refused → Type 0) → ((x : Refused) → o ≡ Err x → P x) → IfErr r P
+refused_of (Ok x) r e P h = subst (λ v. IfErr v P) (sym e) tt
+refused_of (Err x) r e P h = subst (λ v. IfErr v P) (sym e) (h x refl)

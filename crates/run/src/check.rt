@@ -1,4 +1,4 @@
-ghost use Rattle.std.specs.Prelude.{◌≡◌, ◌≤◌, length};
+ghost use Rattle.std.specs.Prelude.{◌≡◌, ◌≤◌, length, IfErr};
 ghost use Rattle.model.specs.Trees.{run_of};
 ghost use Rattle.model.specs.Layouts.{values, types};
 ghost use Rattle.model.specs.Reading.{read_run, start};
@@ -100,6 +100,7 @@ fn entity_parts(run: &[Node]) -> Result<(), Refused>
 pub fn check_entity(run: &[Node]) -> Result<(), Refused>
     ensures is { result ≡ verdict (read_entity run.now) }
     ensures exact { Exact FormedEntity entity_run run.now result }
+    ensures near { IfErr result (λ e. e.1 ≤ 4097) }
 {
     entity_parts(run)
 }

@@ -13,7 +13,8 @@ use Rattle.model.specs.Layouts.{values, value_node, value_arity}
 use Rattle.model.specs.Formed.{fits, all_fit}
 use Rattle.model.specs.Values.{uid_node, trees_of}
 use Rattle.model.specs.Entities.{Entity, FormedEntity, attributes_tree, entity_run}
-use Rattle.model.specs.Stores.{AllFormed, entity_runs, entities_of}
+use Rattle.model.specs.Stores.{AllFormed, entities_of}
+use Rattle.model.specs.Images.{entity_runs}
 use Rattle.laws.proofs.WholeRuns.{Whole, entities_lawful}
 use Rattle.laws.proofs.TableRuns.{covers}
 

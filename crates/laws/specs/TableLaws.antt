@@ -2,7 +2,9 @@
 use Rattle.std.specs.Prelude.{◌≡◌, ℕ, List, None}
 use Rattle.model.specs.declared.node.Node.{Node}
 use Rattle.model.specs.Entities.{Entity}
-use Rattle.model.specs.Stores.{Storable, entity_runs, first_nodes, entities_of, table_fault}
+use Rattle.model.specs.Stores.{entities_of, table_fault}
+use Rattle.model.specs.Images.{entity_runs, first_nodes}
+use Rattle.model.specs.Writing.{Storable}
 
 -- a table is made of exactly the runs of a list that fits, and then means that list
 pub record TablesRead : Type 0 where

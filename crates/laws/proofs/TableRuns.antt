@@ -6,7 +6,9 @@ use Rattle.model.specs.declared.node.Node.{Node}
 use Rattle.model.specs.Slots.{uid_below}
 use Rattle.model.specs.Reading.{Refused}
 use Rattle.model.specs.Entities.{Entity, FormedEntity, entity_run, read_entity, head_uid}
-use Rattle.model.specs.Stores.{Storable, AllFormed, UidsAscend, first_at, end_at, run_at, collected, entity_if_read, entities_of, entity_runs, first_nodes}
+use Rattle.model.specs.Stores.{AllFormed, UidsAscend, first_at, end_at, run_at, collected, entity_if_read, entities_of}
+use Rattle.model.specs.Images.{entity_runs, first_nodes}
+use Rattle.model.specs.Writing.{Storable}
 use Rattle.laws.specs.TableLaws.{TablesRead}
 use Rattle.laws.proofs.EntityRuns.{entities_read}
 use Rattle.laws.proofs.WholeRuns.{sound, sound_entries, Whole, listed_more, entities_lawful, table_whole, whole_table}

@@ -1,8 +1,9 @@
 -- Writing the image of a list and reading an image are inverse to each other.
 use Rattle.std.specs.Prelude.{◌≡◌, ℕ, ◌<◌, List, None, slice_index}
 use Rattle.model.specs.Entities.{Entity}
-use Rattle.model.specs.Stores.{Storable, RunsFitParts}
+use Rattle.model.specs.Stores.{RunsFitParts}
 use Rattle.model.specs.Images.{image_of, image_fault, image_entities}
+use Rattle.model.specs.Writing.{Storable}
 
 -- bytes are an image exactly if they are those of a list that fits, and then they mean that list
 pub record ImagesRead : Type 0 where

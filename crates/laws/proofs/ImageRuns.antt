@@ -6,8 +6,9 @@ use Rattle.model.specs.declared.fault.Fault.{Fault}
 use Rattle.model.specs.Checks.{Checked, good, then}
 use Rattle.model.specs.Faults.{least}
 use Rattle.model.specs.Entities.{Entity, entity_run}
-use Rattle.model.specs.Stores.{Storable, AllFitParts, RunsFitParts, run_faults, entities_of, entity_runs, first_nodes}
-use Rattle.model.specs.Images.{entity_count, node_count, header, place_list, nodes_there, ends, counts, image_nodes, place_entries, at_offset, fault_of, node_faults, unless_broken, image_fault, image_entities, written, image_of}
+use Rattle.model.specs.Stores.{AllFitParts, RunsFitParts, run_faults, entities_of}
+use Rattle.model.specs.Images.{entity_count, node_count, header, place_list, nodes_there, ends, counts, image_nodes, place_entries, at_offset, fault_of, node_faults, unless_broken, image_fault, image_entities, image_of, entity_runs, first_nodes, node_offset, low_bytes, node_bytes, joined}
+use Rattle.model.specs.Writing.{Storable, written}
 use Rattle.laws.specs.ImageLaws.{ImagesRead}
 use Rattle.laws.proofs.ChecksPass.{require_holds, then_parts, then_passes}
 use Rattle.laws.proofs.WholeRuns.{Whole, no_least, none_of_two, runs_whole, whole_runs}
@@ -77,6 +78,14 @@ pub fit_runs : (es : List Entity) → AllFitParts (entity_runs es) → RunsFitPa
 fit_runs [] h = tt
 fit_runs (e ∷ es) h = let p = fit_parted (entity_run e) (entity_runs es) h in (p.0, fit_runs es p.1)
 
+-- the image of a list, by its nodes and first nodes
+pub image_is : (es : List Entity) → image_of es ≡ written (entity_runs es) (first_nodes 0 es)
+image_is es =
+    ap
+    (λ n. low_bytes 4 n ++ (low_bytes 4 (length (entity_runs es)) ++ (low_bytes 4 16 ++ (low_bytes 4 (node_offset n 0)
+    ++ (joined (low_bytes 4) (first_nodes 0 es) ++ joined node_bytes (entity_runs es))))))
+    (sym (first_nodes_length 0 es))
+
 -- the image of a list that fits
 module _ (es : List Entity) (s : Storable es) (fits : RunsFitParts es) where
   abbrev nodes : List Node
@@ -130,11 +139,11 @@ module _ (es : List Entity) (s : Storable es) (fits : RunsFitParts es) where
 pub image_back : (bs : List ℕ) → ((i : ℕ) → get_or bs i 0 < 256) → Imaged bs → image_of (image_entities bs) ≡ bs
 image_back bs small i =
     let c = covers (image_nodes bs) (place_entries bs) i.whole in
-    ap (λ v. written v (first_nodes 0 (image_entities bs))) c.0 ∙ (ap (written (image_nodes bs)) c.1 ∙ read_written bs small i.headed i.listed i.noded i.ended)
+    image_is (image_entities bs) ∙ (ap (λ v. written v (first_nodes 0 (image_entities bs))) c.0 ∙ (ap (written (image_nodes bs)) c.1 ∙ read_written bs small i.headed i.listed i.noded i.ended))
 
 pub images_read : ImagesRead
 images_read = record {
-  every = λ es s f. (accepted es s f (image_of es) refl, meant es s f (image_of es) refl);
+  every = λ es s f. (accepted es s f (image_of es) (image_is es), meant es s f (image_of es) (image_is es));
   only = λ bs small h.
       let i = image_whole bs h in
       let c = covers (image_nodes bs) (place_entries bs) i.whole in (
