@@ -1,4 +1,5 @@
 pub mod Entries
+pub mod Opens
 pub mod PlaceFacts
 pub mod Places
 pub mod TableFacts

@@ -1,5 +1,5 @@
 // Nodes that a list of first nodes cuts into runs.
-ghost use Rattle.std.specs.Prelude.{◌≡◌, ◌<◌, ◌≤◌, length};
+ghost use Rattle.std.specs.Prelude.{◌≡◌, ◌-◌, ◌<◌, ◌≤◌, length, take, drop};
 ghost use Rattle.model.specs.Entities.{head_uid};
 ghost use Rattle.model.specs.Stores.{first_at, end_at, run_at, entry_sound, broken_entry};
 ghost use Rattle.store.specs.Entries.{Sound};
@@ -32,12 +32,12 @@ pub(crate) fn broken_entry(nodes: usize, firsts: &[usize]) -> Option<usize>
     None
 }
 
-// Where the run `k` ends, where every entry is sound.
+// Where the run `k` ends; where every entry is sound, behind its first node and within the nodes.
 fn end_at(nodes: usize, firsts: &[usize], k: usize) -> usize
-    requires { (Sound nodes firsts.now) × (k < length firsts.now) }
+    requires { k < length firsts.now }
     ensures is { result ≡ end_at nodes firsts.now k }
-    ensures above { first_at firsts.now k < result }
-    ensures below { result ≤ nodes }
+    ensures above { Sound nodes firsts.now → first_at firsts.now k < result }
+    ensures below { Sound nodes firsts.now → result ≤ nodes }
 {
     if k + 1 < firsts.len() {
         firsts[k + 1]
@@ -46,21 +46,31 @@ fn end_at(nodes: usize, firsts: &[usize], k: usize) -> usize
     }
 }
 
-// The run `k`, where every entry is sound.
-pub(crate) fn run_at<'n>(nodes: &'n [Node], firsts: &[usize], k: usize) -> &'n [Node]
-    requires { (Sound (length nodes.now) firsts.now) × (k < length firsts.now) }
-    ensures is { result.now ≡ run_at nodes.now firsts.now k }
-    ensures some { 0 < length result.now }
+// The nodes from `first` to `end`, as far as there are such nodes.
+fn between(nodes: &[Node], first: usize, end: usize) -> &[Node]
+    ensures { result.now ≡ take (end - first) (drop first nodes.now) }
 {
-    let first = firsts[k];
-    let end = end_at(nodes.len(), firsts, k);
+    let end = end.min(nodes.len());
+    let first = first.min(end);
     &nodes[first..end]
+}
+
+// The run `k`; where every entry is sound, it has a node.
+pub(crate) fn run_at<'n>(nodes: &'n [Node], firsts: &[usize], k: usize) -> &'n [Node]
+    requires { k < length firsts.now }
+    ensures is { result.now ≡ run_at nodes.now firsts.now k }
+    ensures some { Sound (length nodes.now) firsts.now → 0 < length result.now }
+{
+    let end = end_at(nodes.len(), firsts, k);
+    between(nodes, firsts[k], end)
 }
 
 // The uid that the first node of a run names.
 pub(crate) fn uid_of(run: &[Node]) -> Uid
-    requires { 0 < length run.now }
     ensures { result ≡ head_uid run.now }
 {
+    if run.is_empty() {
+        return (0, 0);
+    }
     (run[0].a, run[0].b)
 }

@@ -1,12 +1,13 @@
 // The faults of nodes that a list of first nodes cuts into runs.
-ghost use Rattle.std.specs.Prelude.{◌≡◌, ◌-◌, ◌<◌, ◌≤◌, ◌++◌, length};
+ghost use Rattle.std.specs.Prelude.{◌≡◌, ◌==◌, ◌-◌, ◌<◌, ◌≤◌, ◌++◌, ◌||◌, length};
 ghost use Rattle.model.specs.Faults.{least, least_with};
 ghost use Rattle.model.specs.Slots.{uid_below};
-ghost use Rattle.model.specs.Entities.{read_entity};
-ghost use Rattle.model.specs.Stores.{first_at, run_fault, uid_fault, faults_at, run_faults, run_holding, at_node, fault_if, table_faults, table_fault};
-ghost use Rattle.store.specs.Entries.{Sound, fault_of_entity};
+ghost use Rattle.model.specs.Entities.{read_entity, head_uid};
+ghost use Rattle.model.specs.Stores.{first_at, run_at, run_fault, uid_fault, faults_at, run_faults, run_holding, at_node, fault_if, table_faults, table_fault};
+ghost use Rattle.store.specs.Entries.{told, AllBelow};
 
 use crate::cut::{broken_entry, run_at, uid_of};
+use crate::places::{ByEntity, Places};
 use crate::search::below;
 use model::fault::{Fault, Refusal};
 use model::limits;
@@ -14,48 +15,81 @@ use model::node::Node;
 use run::check::check_entity;
 
 // The least fault so far, and that of reading the run `k`.
-fn keep_run_fault(kept: Option<Fault>, run: &[Node], k: usize) -> Option<Fault>
-    ensures { result ≡ least_with kept (run_fault fault_of_entity k (read_entity run.now)) }
+fn keep_run_fault<P: Places>(
+    places: &P,
+    kept: Option<Fault>,
+    run: &[Node],
+    firsts: &[usize],
+    k: usize,
+) -> Option<Fault>
+    ensures { first_at firsts.now k < P.Places.room places.now → result ≡ least_with kept (run_fault (told (P.Places.telling places.now) firsts.now) k (read_entity run.now)) }
 {
     match check_entity(run) {
         Ok(()) => kept,
-        Err((refusal, node)) => Fault::keep_least(kept, Fault::of_entity(refusal, k, node)),
+        Err((refusal, node)) => {
+            let fault = places.fault(k, first_at(firsts, k), node, refusal);
+            Fault::keep_least(kept, fault)
+        }
     }
 }
 
-// The least fault so far, and that of a uid which is not above the one before.
-fn keep_uid_fault(kept: Option<Fault>, nodes: &[Node], firsts: &[usize], k: usize) -> Option<Fault>
-    requires { (Sound (length nodes.now) firsts.now) × (k < length firsts.now) }
-    ensures { result ≡ least_with kept (uid_fault fault_of_entity nodes.now firsts.now k) }
+// Whether the uid of the run `k` is above that of the run before, if there is one.
+fn uid_ascends(nodes: &[Node], firsts: &[usize], k: usize) -> bool
+    requires { k < length firsts.now }
+    ensures { result ≡ (k == 0 || uid_below (head_uid (run_at nodes.now firsts.now (k - 1))) (head_uid (run_at nodes.now firsts.now k))) }
 {
-    if k == 0
+    k == 0
         || below(
             uid_of(run_at(nodes, firsts, k - 1)),
             uid_of(run_at(nodes, firsts, k)),
         )
-    {
+}
+
+// The least fault so far, and that of a uid which is not above the one before.
+fn keep_uid_fault<P: Places>(
+    places: &P,
+    kept: Option<Fault>,
+    nodes: &[Node],
+    firsts: &[usize],
+    k: usize,
+) -> Option<Fault>
+    requires { k < length firsts.now }
+    ensures { first_at firsts.now k < P.Places.room places.now → result ≡ least_with kept (uid_fault (told (P.Places.telling places.now) firsts.now) nodes.now firsts.now k) }
+{
+    if uid_ascends(nodes, firsts, k) {
         return kept;
     }
-    Fault::keep_least(kept, Fault::of_entity(Refusal::Malformed, k, 1))
+    let fault = places.fault(k, first_at(firsts, k), 1, Refusal::Malformed);
+    Fault::keep_least(kept, fault)
 }
 
 // The least fault so far, and those of the run `k`.
-fn keep_faults_at(kept: Option<Fault>, nodes: &[Node], firsts: &[usize], k: usize) -> Option<Fault>
-    requires { (Sound (length nodes.now) firsts.now) × (k < length firsts.now) }
-    ensures { result ≡ least_with kept (faults_at fault_of_entity nodes.now firsts.now k) }
+fn keep_faults_at<P: Places>(
+    places: &P,
+    kept: Option<Fault>,
+    nodes: &[Node],
+    firsts: &[usize],
+    k: usize,
+) -> Option<Fault>
+    requires { k < length firsts.now }
+    ensures { first_at firsts.now k < P.Places.room places.now → result ≡ least_with kept (faults_at (told (P.Places.telling places.now) firsts.now) nodes.now firsts.now k) }
 {
-    let kept = keep_run_fault(kept, run_at(nodes, firsts, k), k);
-    keep_uid_fault(kept, nodes, firsts, k)
+    let kept = keep_run_fault(places, kept, run_at(nodes, firsts, k), firsts, k);
+    keep_uid_fault(places, kept, nodes, firsts, k)
 }
 
-// The least fault so far, and those of all runs.
-fn keep_run_faults(kept: Option<Fault>, nodes: &[Node], firsts: &[usize]) -> Option<Fault>
-    requires { Sound (length nodes.now) firsts.now }
-    ensures { result ≡ least_with kept (run_faults fault_of_entity nodes.now firsts.now) }
+// The least fault so far, and those of all runs that the list of first nodes cuts the nodes into.
+pub fn keep_run_faults<P: Places>(
+    places: &P,
+    kept: Option<Fault>,
+    nodes: &[Node],
+    firsts: &[usize],
+) -> Option<Fault>
+    ensures { AllBelow (P.Places.room places.now) firsts.now → result ≡ least_with kept (run_faults (told (P.Places.telling places.now) firsts.now) nodes.now firsts.now) }
 {
     let mut least = kept;
     for k in 0..firsts.len() {
-        least = keep_faults_at(least, nodes, firsts, k);
+        least = keep_faults_at(places, least, nodes, firsts, k);
     }
     least
 }
@@ -121,5 +155,5 @@ pub(crate) fn table_fault(nodes: &[Node], firsts: &[usize]) -> Option<Fault>
     if let Some(k) = broken_entry(nodes.len(), firsts) {
         return Some(Fault::of_entity(Refusal::Malformed, k, 1));
     }
-    keep_run_faults(table_faults(nodes, firsts), nodes, firsts)
+    keep_run_faults(&ByEntity, table_faults(nodes, firsts), nodes, firsts)
 }

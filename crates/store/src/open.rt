@@ -1,5 +1,7 @@
-ghost use Rattle.std.specs.Prelude.{◌≡◌, IfOk, IfErr, Some, None};
-ghost use Rattle.model.specs.Stores.{table_fault};
+ghost use Rattle.std.specs.Prelude.{◌≡◌, List, IfOk, IfErr, Some, None};
+ghost use Rattle.model.specs.Entities.{Entity};
+ghost use Rattle.model.specs.Stores.{table_fault, entities_of};
+ghost use Rattle.store.specs.Opens.{NodesOf};
 
 use crate::faults::table_fault;
 use crate::table::NodeTable;
@@ -18,7 +20,9 @@ impl NodeTable {
     // The store of these nodes, where `firsts` has the index of the first node of each entity's run.
     pub fn open(nodes: Vec<Node>, firsts: Vec<usize>) -> Result<NodeTable, RefusedTable>
         ensures opened { IfOk result (λ t. (t.nodes ≡ nodes) × (t.firsts ≡ firsts) × (table_fault nodes.items firsts.items ≡ None)) }
+        ensures means { IfOk result (λ _. NodesOf nodes.items firsts.items (entities_of nodes.items firsts.items)) }
         ensures refused { IfErr result (λ x. (x.nodes ≡ nodes) × (x.firsts ≡ firsts) × (table_fault nodes.items firsts.items ≡ Some x.fault)) }
+        ensures of_none { IfErr result (λ _. (es : List Entity) → NodesOf nodes.items firsts.items es → ⊥) }
     {
         match table_fault(nodes.as_slice(), firsts.as_slice()) {
             None => Ok(NodeTable { nodes, firsts }),

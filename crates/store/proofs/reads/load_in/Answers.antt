@@ -1,6 +1,5 @@
 use Rattle.std.proofs.Common.{◌≡◌, Err, sym, ap, ◌∙◌}
 use Rattle.model.specs.Stores.{loaded}
-use Rattle.store.proofs.Entering.{sound}
 use Rattle.store.specs.TableFacts.{tabled, load_there, load_nowhere}
 use Rattle.store.proofs.reads.load_in.Goals as goal
 
@@ -11,9 +10,6 @@ returns-then-place-firsts c =
       answer = ap Err c.whole_call.ensures ∙ sym (ap (λ x. x.0) e);
       written = sym (ap (λ x. x.1) e);
     }
-
-pub run_at-requires : goal.run_at-requires
-run_at-requires c = (sound _ _ (tabled c.args.nodes.now c.args.firsts.now c.requires).entries, c.if-place-firsts.false)
 
 pub returns : goal.returns
 returns c =

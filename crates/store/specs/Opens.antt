@@ -2,7 +2,8 @@
 use Rattle.std.specs.Prelude.{◌≡◌, ℕ, List}
 use Rattle.model.specs.declared.node.Node.{Node}
 use Rattle.model.specs.Entities.{Entity}
-use Rattle.model.specs.Stores.{Storable, entity_runs, first_nodes}
+use Rattle.model.specs.Images.{entity_runs, first_nodes}
+use Rattle.model.specs.Writing.{Storable}
 
 -- the nodes and first nodes are those of a list that fits
 abbrev pub NodesOf : List Node → List ℕ → List Entity → Type 0

@@ -20,10 +20,10 @@ of_none ns fs f h es n =
 
 pub returns-in-None : goal.returns-in-None
 returns-in-None c =
-    let e = found_in _ _ _ _ None c.in-None.ensures c.as-slice.ensures.value c.as-slice-2.ensures.value in
-    record { opened = (refl, refl, e, tables_read.only _ _ e); refused = tt }
+    let e = found_in _ _ _ _ None c.in-None.ensures c.as_slice.ensures.value c.as_slice-2.ensures.value in
+    record { opened = (refl, refl, e); means = tables_read.only _ _ e; refused = tt; of_none = tt }
 
 pub returns-in-Some : goal.returns-in-Some
 returns-in-Some c =
-    let e = found_in _ _ _ _ (Some c.in-Some.fault) c.in-Some.ensures c.as-slice.ensures.value c.as-slice-2.ensures.value in
-    record { opened = tt; refused = (refl, refl, e, of_none _ _ c.in-Some.fault e) }
+    let e = found_in _ _ _ _ (Some c.in-Some.fault) c.in-Some.ensures c.as_slice.ensures.value c.as_slice-2.ensures.value in
+    record { opened = tt; means = tt; refused = (refl, refl, e); of_none = of_none _ _ c.in-Some.fault e }

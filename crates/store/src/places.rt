@@ -1,5 +1,5 @@
 // How a fault at a node of a run is told.
-ghost use Rattle.std.specs.Prelude.{◌≡◌};
+ghost use Rattle.std.specs.Prelude.{◌≡◌, ℕ, ◌<◌, ◌≤◌};
 ghost use Rattle.store.specs.Entries.{Telling, by_entity};
 
 use model::fault::{Fault, Refusal};
@@ -8,10 +8,12 @@ use model::fault::{Fault, Refusal};
 pub trait Places {
     // the fault of a refusal, by the run, the index of the run's first node, and the node's number in the run
     ghost telling: { Self → Telling };
+    // the indexes of first nodes that can be told lie below it
+    ghost room: { Self → ℕ };
 
     // The fault of a refusal at a node, from 1, of a run whose first node has the index `first`.
-    fn fault(&self, run: usize, first: u32, node: u32, refusal: Refusal) -> Fault
-        ensures { result ≡ telling self.now run first node refusal };
+    fn fault(&self, run: usize, first: usize, node: usize, refusal: Refusal) -> Fault
+        ensures { first < room self.now → node ≤ 4097 → result ≡ telling self.now run first node refusal };
 }
 
 // By the entity's place and the node of its run.
@@ -21,7 +23,9 @@ pub struct ByEntity;
 impl Places for ByEntity {
     ghost telling = { λ _. by_entity };
 
-    fn fault(&self, run: usize, _first: u32, node: u32, refusal: Refusal) -> Fault {
-        Fault::of_entity(refusal, run, node as usize)
+    ghost room = { λ _. 18446744073709551616 };
+
+    fn fault(&self, run: usize, _first: usize, node: usize, refusal: Refusal) -> Fault {
+        Fault::of_entity(refusal, run, node)
     }
 }
