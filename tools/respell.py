@@ -14,6 +14,7 @@ import re
 import sys
 
 TOKEN = re.compile(r"[^\s(){}.,;\[\]:\"]+")
+SEVERAL = re.compile(r"(?:^|[({])\s*((?:[^\s(){}.,;:\[\]\"]+\s+)+):\s")
 SIGNATURE = re.compile(r"\s*(?:(?:abbrev|pub|unfoldable|opaque)\s+)*(?:(?:record|data)\s+)?([^\s(){}.,;:\[\]\"]+)(?:\s+[({].*)?\s*:\s")
 ALIAS = re.compile(r"\sas\s+([^\s(){}.,;:]+)")
 IMPORT = re.compile(r"use\s+(\S+?)\.\{([^}]*)\}")
@@ -67,6 +68,8 @@ def own_names(root):
             declared = SIGNATURE.match(line + " ") if path.endswith(".antt") and not MADE.search(line) else None
             if declared:
                 found.add(declared[1])
+            if path.endswith(".antt") and not MADE.search(line):
+                found.update(name for names in SEVERAL.findall(line + " ") for name in names.split())
             if path.endswith(".antt") or "ghost use" in line:
                 found.update(ALIAS.findall(line))
     return {name: respelled(name) for name in sorted(found) if old_spelling(name)}

@@ -1,1 +1,4 @@
+pub mod Faultless
 pub mod Headers
+pub mod Opens
+pub mod Views

@@ -17,7 +17,7 @@ pub struct Header {
 }
 
 // What must hold at an offset, else the layout is broken there.
-fn require(holds: bool, offset: usize) -> Result<(), Fault>
+pub(crate) fn require(holds: bool, offset: usize) -> Result<(), Fault>
     ensures { result ≡ laid_out holds offset }
 {
     if holds {
@@ -28,7 +28,7 @@ fn require(holds: bool, offset: usize) -> Result<(), Fault>
 }
 
 // The u32 of a header field or list entry, which has to be there.
-fn field(bytes: &[u8], offset: usize) -> Result<u32, Fault>
+pub(crate) fn field(bytes: &[u8], offset: usize) -> Result<u32, Fault>
     ensures { result ≡ after (laid_out (within bytes.now offset 4) offset) (u32_at bytes.now offset) }
 {
     match read_u32(bytes, offset) {
@@ -101,7 +101,7 @@ fn check_entry(bytes: &[u8], header: Header, k: u32) -> Result<(), Fault>
     require(first < header.nodes, offset)
 }
 
-fn check_place_list(bytes: &[u8], header: Header) -> Result<(), Fault>
+pub(crate) fn check_place_list(bytes: &[u8], header: Header) -> Result<(), Fault>
     ensures { result ≡ place_list bytes.now header.entities header.nodes }
 {
     for k in 0..header.entities {
@@ -121,7 +121,7 @@ fn check_node(bytes: &[u8], header: Header, j: u32) -> Result<(), Fault>
     )
 }
 
-fn check_nodes(bytes: &[u8], header: Header) -> Result<(), Fault>
+pub(crate) fn check_nodes(bytes: &[u8], header: Header) -> Result<(), Fault>
     ensures { result ≡ nodes_there bytes.now header.entities header.nodes }
 {
     for j in 0..header.nodes {
@@ -131,14 +131,14 @@ fn check_nodes(bytes: &[u8], header: Header) -> Result<(), Fault>
 }
 
 // Nothing follows the last node.
-fn check_end(bytes: &[u8], header: Header) -> Result<(), Fault>
+pub(crate) fn check_end(bytes: &[u8], header: Header) -> Result<(), Fault>
     ensures { result ≡ ends bytes.now header.entities header.nodes }
 {
     let end = header.node_offset(header.nodes);
     require(bytes.len() <= end, end)
 }
 
-fn check_counts(header: Header) -> Result<(), Fault>
+pub(crate) fn check_counts(header: Header) -> Result<(), Fault>
     ensures { result ≡ counts header.entities header.nodes }
 {
     if header.entities > limits::STORE_ENTITIES {

@@ -1,5 +1,13 @@
-//! The image of a store: its bytes, header and place list.
+//! The image of a store: a store in bytes, and its bytes, header and place list.
 #![tactic(auto)]
 
 pub mod bytes;
+pub(crate) mod check;
+pub mod error;
 pub mod frame;
+pub mod image;
+pub mod image_store;
+pub(crate) mod offsets;
+pub mod open;
+pub(crate) mod reads;
+pub mod view;

@@ -73,7 +73,7 @@ module _ (s : Schema) (q : RequestType) (r : Request) (es : List Entity) (d : Na
       go None e h ih = let z : ◌≡◌ {A = ℕ} 0 1 = cc in absurd (omega arith)
       go (Some b) e h ih =
           walk_on_from i (step_value s es st t v) (step_term (from_concrete_env s q r es) st (symbolize t v)) b a _ _ (step_agrees st t v b f e)
-          (λ t' v' f' b-is. ih t' v' f' (ap (λ c. foretold_from s sts (i + 1) c) b-is ∙ h))
+          (λ t' v' f' b_is. ih t' v' f' (ap (λ c. foretold_from s sts (i + 1) c) b_is ∙ h))
 
 -- the context type of a request type, which may be that of an action
 context_apart : (o : Option Ty) → ((t : Ty) → o ≡ Some t → Apart t) → Apart (or_empty (closed_context o))
@@ -117,8 +117,8 @@ walked_same (Err i) w a h = h
 
 walked_typed : (x : Found Typed) (w : Found Term) (a : TermTy) (t : Term) → Walked x w a → as_term x ≡ Ok t → (type_of t ≡ a) × (literal t ≡ true)
 walked_typed (Ok x) w a t h e =
-    let t-is : symbolize x.0 x.1 ≡ t = cc in
-    (ap type_of (sym t-is) ∙ (h.1.1 ∙ h.1.0), ap literal (sym t-is) ∙ symbolized_literal x.0 x.1)
+    let t_is : symbolize x.0 x.1 ≡ t = cc in
+    (ap type_of (sym t_is) ∙ (h.1.1 ∙ h.1.0), ap literal (sym t_is) ∙ symbolized_literal x.0 x.1)
 walked_typed (Err i) w a t h e = (cc, cc)
 
 -- all that is stated of walks

@@ -96,10 +96,10 @@ tag_step s es u (Some (enum ms)) n b d k h = none_not h
 tag_step s es u (Some (standard ds attrs None)) n b d k h = none_not h
 tag_step s es u (Some (standard ds attrs (Some t))) n b d k h =
     let default = default_literal (least_member s) (term_type t) in
-    let b-is : term_type t ≡ b = cc in
+    let b_is : term_type t ≡ b = cc in
     subst (λ o. Agrees (mapped (λ v. (t, v)) (field n (tags_stored (stored es u)))) (when (has_key n (or_default (mapped tag_keys_term o) (empty_set (flat string)))) (or_default (tag_in t n o) default)) b)
     (sym (own_key u.0 (stored es u)))
-    (subst (λ a. Agrees (mapped (λ v. (t, v)) (field n (tags_stored (stored es u)))) (when (has_key n (or_default (mapped tag_keys_term (stored es u)) (empty_set (flat string)))) (or_default (tag_in t n (stored es u)) default)) a) b-is
+    (subst (λ a. Agrees (mapped (λ v. (t, v)) (field n (tags_stored (stored es u)))) (when (has_key n (or_default (mapped tag_keys_term (stored es u)) (empty_set (flat string)))) (or_default (tag_in t n (stored es u)) default)) a) b_is
     (tag_agrees t (stored es u) n default (λ e v i f. fitting s t v (d t refl) (element_unbroken s e.tags t (tags_place e) n v (parts_unbroken s e attrs (Some t) (k e i)).1 f))))
 
 -- a table that is there is asked

@@ -50,9 +50,9 @@ first_apart : (ts : Tys) → EachApart ts → Apart (first_type ts)
 first_apart none e = tt
 first_apart (more name required of rest) e = e.0
 
-grouped_apart : (is_set is-closed is_open : Bool) (ts : Tys) (x : Ty) → EachApart ts → InSlot (cond is_set Plain (Named None)) ts → Apart x →
-    Apart (cond is_set (set (first_type ts)) (cond is-closed (rec false ts) (cond is_open (rec true ts) x)))
-grouped_apart true is-closed is_open ts x e a h = first_apart ts e
+grouped_apart : (is_set is_closed is_open : Bool) (ts : Tys) (x : Ty) → EachApart ts → InSlot (cond is_set Plain (Named None)) ts → Apart x →
+    Apart (cond is_set (set (first_type ts)) (cond is_closed (rec false ts) (cond is_open (rec true ts) x)))
+grouped_apart true is_closed is_open ts x e a h = first_apart ts e
 grouped_apart false true is_open ts x e a h = all_apart None ts a e
 grouped_apart false false true ts x e a h = all_apart None ts a e
 grouped_apart false false false ts x e a h = h

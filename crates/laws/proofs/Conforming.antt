@@ -67,13 +67,13 @@ ext_kind c (value.ext x) h = ap extension (ext_type_is x ∙ ap ext_of_code (eqb
 
 kind_type : (s : Schema) (x : Flat) (y : Primitive) → kind_fits s x y ≡ true → prim_type (symbolize_prim y) ≡ flat_type x
 kind_type s type.bool y h = bool_kind y h
-kind_type s type.true-type y h = cc
-kind_type s type.false-type y h = cc
+kind_type s type.true_type y h = cc
+kind_type s type.false_type y h = cc
 kind_type s type.long y h = long_kind y h
 kind_type s type.string y h = string_kind y h
-kind_type s type.any-entity y h = cc
+kind_type s type.any_entity y h = cc
 kind_type s type.entities y h = cc
-kind_type s type.any-set y h = cc
+kind_type s type.any_set y h = cc
 kind_type s type.never y h = cc
 kind_type s (type.entity n) y h = uid_kind s n y h
 kind_type s (type.extension c) y h = ext_kind c y h

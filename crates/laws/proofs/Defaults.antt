@@ -43,13 +43,13 @@ default_ext_is false false false = refl
 
 default_flat_is : (least : ℕ → ℕ) (x : Flat) → symbolize_prim (default_flat least x) ≡ default_prim least (flat_type x)
 default_flat_is least type.bool = refl
-default_flat_is least type.true-type = refl
-default_flat_is least type.false-type = refl
+default_flat_is least type.true_type = refl
+default_flat_is least type.false_type = refl
 default_flat_is least type.long = refl
 default_flat_is least type.string = refl
-default_flat_is least type.any-entity = refl
+default_flat_is least type.any_entity = refl
 default_flat_is least type.entities = refl
-default_flat_is least type.any-set = refl
+default_flat_is least type.any_set = refl
 default_flat_is least type.never = refl
 default_flat_is least (type.entity n) = refl
 default_flat_is least (type.extension c) = ap (λ x. symbolize_prim (value.ext x)) (default_ext_is (eqb c 1) (eqb c 2) (eqb c 3))

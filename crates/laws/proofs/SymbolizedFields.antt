@@ -105,7 +105,7 @@ field_agrees n (type.more name required of rest) vs b e h = go (eqb name n) refl
         Agrees (typed_field (cond c (Some (required, of)) (type.field n rest)) (field n vs)) (cond c (present (field_term required of (field name vs))) (field_of n (attributes rest vs))) b
     go true c h ih =
         let found = present (field_term required of (field name vs)) in
-        let b-is : term_type of ≡ b = sym (qualified_type required of) ∙ (cc) in
+        let b_is : term_type of ≡ b = sym (qualified_type required of) ∙ (cc) in
         subst (λ m. Agrees (typed_field (Some (required, of)) (field m vs)) found b) (eqb-true name n c)
-        (subst (λ a. Agrees (typed_field (Some (required, of)) (field name vs)) found a) b-is (attribute_agrees required of (field name vs) (cc)))
+        (subst (λ a. Agrees (typed_field (Some (required, of)) (field name vs)) found a) b_is (attribute_agrees required of (field name vs) (cc)))
     go false c h ih = ih h

@@ -142,8 +142,8 @@ atom_same (var v a) (none_of b) h e = greater_not h
 atom_same (var v a) (prim y) h e = greater_not h
 atom_same (var v a) (var w b) h e =
     let both = then_same (by_number (var_rank v) (var_rank w)) (order_type a b) e in
-    let v-is : v ≡ w = sym (var_back v) ∙ (ap var_of (number_same (var_rank v) (var_rank w) both.0) ∙ var_back w) in
-    λ i. var (v-is i) (type_same a b both.1 i)
+    let v_is : v ≡ w = sym (var_back v) ∙ (ap var_of (number_same (var_rank v) (var_rank w) both.0) ∙ var_back w) in
+    λ i. var (v_is i) (type_same a b both.1 i)
 
 group_same : (g h : Group) → by_number (group_rank g) (group_rank h) ≡ Equal → within_group g h ≡ Equal → g ≡ h
 group_same fields fields r e = refl

@@ -12,20 +12,20 @@ use Rattle.model.specs.Layouts as layout
 use Rattle.model.specs.Layouts.{types, type_arity, type_mark, signed_below, is_zero}
 use Rattle.model.specs.Formed.{fits, all_fit}
 use Rattle.model.specs.Values.{is_one}
-use Rattle.model.specs.Types.{Flat, bool, true-type, false-type, long, string, any-entity, entities, any-set, never, entity, extension, Ty, flat, set, rec, Tys, none, more, count, flat_kind, flat_part, type_node, tree_of, trees_of, flat_of, first_type, type_of, types_of}
+use Rattle.model.specs.Types.{Flat, bool, true_type, false_type, long, string, any_entity, entities, any_set, never, entity, extension, Ty, flat, set, rec, Tys, none, more, count, flat_kind, flat_part, type_node, tree_of, trees_of, flat_of, first_type, type_of, types_of}
 use Rattle.laws.specs.RunLaws.{TypesRead}
 use Rattle.laws.proofs.Parts.{same_node, zero_is, bit_is, none_is}
 
 -- a type of one node is that of its node
 flat_back : (f : ℕ) (q : Bool) (x : Flat) → type_of (tree_of f q (flat x)) ≡ flat x
 flat_back f q bool = refl
-flat_back f q true-type = refl
-flat_back f q false-type = refl
+flat_back f q true_type = refl
+flat_back f q false_type = refl
 flat_back f q long = refl
 flat_back f q string = refl
-flat_back f q any-entity = refl
+flat_back f q any_entity = refl
 flat_back f q entities = refl
-flat_back f q any-set = refl
+flat_back f q any_set = refl
 flat_back f q never = refl
 flat_back f q (entity n) = refl
 flat_back f q (extension c) = refl

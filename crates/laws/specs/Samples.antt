@@ -122,7 +122,7 @@ setting attributes records = record {
   sizes = record { records = records; functions = 100; tags = 100 };
 }
 
--- panels {cut: Bool, of-lot: optional Lot}
+-- panels {cut: Bool, of_lot: optional Lot}
 abbrev pub panel_type : Ty
 panel_type = type.rec false (type.more cut true (type.flat type.bool) (type.more of_lot false (type.flat (type.entity lot)) type.none))
 

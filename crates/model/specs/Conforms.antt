@@ -74,13 +74,13 @@ is_ext c (value.ext x) = ext_code x == c
 -- whether the kind of a literal or extension value fits a type without parts; a type that is not taken has no values
 abbrev pub kind_fits : Schema → Flat → Primitive → Bool
 kind_fits s type.bool x = is_bool x
-kind_fits s type.true-type x = false
-kind_fits s type.false-type x = false
+kind_fits s type.true_type x = false
+kind_fits s type.false_type x = false
 kind_fits s type.long x = is_long x
 kind_fits s type.string x = is_string x
-kind_fits s type.any-entity x = false
+kind_fits s type.any_entity x = false
 kind_fits s type.entities x = false
-kind_fits s type.any-set x = false
+kind_fits s type.any_set x = false
 kind_fits s type.never x = false
 kind_fits s (type.entity n) x = is_uid (uid_of_type s n) x
 kind_fits s (type.extension c) x = is_ext c x

@@ -1,6 +1,6 @@
 -- Live environments: what `put`, `remove` and `walk` answer, judged by the list of entities before the call, and the list
 -- after it. What `make` answers is `built` with the check.
-use Rattle.std.specs.Prelude.{ℕ, ◌+◌, Bool, true, false, cond, not, ◌&&◌, ◌||◌, ltb, List, [], ◌∷◌, length, is_some, Some, None, Ok, Err, Option, Result, ◌==◌, nat_le, nat_lt}
+use Rattle.std.specs.Prelude.{ℕ, ◌+◌, Bool, true, false, cond, not, ◌&&◌, ◌||◌, List, [], ◌∷◌, length, is_some, Some, None, Ok, Err, Option, Result, ◌==◌, nat_le, nat_lt}
 use Rattle.model.specs.declared.node.Node.{Node}
 use Rattle.model.specs.declared.fault.Fault.{Fault}
 use Rattle.model.specs.declared.fault.Refusal.TheVariants.{UnableToSymbolizeValue, NonConforming, NotStored, IllTypedWalk}
@@ -60,7 +60,7 @@ one_too_many s es u = is_standard s u.0 && (not (is_some (stored es u)) && nat_l
 abbrev pub put_full : Setting → List Entity → Entity → Bool
 put_full g es e =
     nat_lt g.sizes.records (in_use g (without_uid e.uid es) + records_needed (entity_parts g.schema e))
-    || (any (λ p. ltb 4096 p.needs) (entity_parts g.schema e)
+    || (any (λ p. nat_lt 4096 p.needs) (entity_parts g.schema e)
     || (nat_lt g.sizes.functions (all_function_keys g.schema (with_entity e es)) || nat_lt g.sizes.tags (all_tag_keys g.schema (with_entity e es))))
 
 -- 10 in a put: an entity that is not of a standard type does not conform, at its node 1

@@ -30,8 +30,8 @@ abbrev pub uid_follows : Option Uid → Uid → Bool
 uid_follows None u = true
 uid_follows (Some v) u = uid_below v u
 
--- whether a node may fill a slot, where `is-record` and `is-uid` say what its kind is
-abbrev pub fills : Slot → (is-record is_uid : Bool) → Node → Bool
+-- whether a node may fill a slot, where `is_record` and `is_uid` say what its kind is
+abbrev pub fills : Slot → (is_record is_uid : Bool) → Node → Bool
 fills Plain r u n = n.field == 0
 fills (Named before) r u n = name_follows before n.field
 fills ARecord r u n = n.field == 0 && r

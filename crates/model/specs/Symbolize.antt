@@ -1,5 +1,5 @@
 -- Cedar's types and values as term types and terms: of_type, from_value, the need of a value, default literals.
--- `term_type` and `symbolize` are total: what is not taken, or has no rule, is told apart by `untaken` and `without-rule`.
+-- `term_type` and `symbolize` are total: what is not taken, or has no rule, is told apart by `untaken` and `without_rule`.
 use Rattle.std.specs.Prelude.{ℕ, suc, ◌+◌, ◌-◌, ◌^◌, Bool, true, false, cond, ◌&&◌, ℤ, pos, negsuc, Some, None, Option, Result, ◌==◌, nat_le, nat_lt}
 use Rattle.model.specs.Options.{or_else, unless}
 use Rattle.model.specs.Values as value
@@ -11,13 +11,13 @@ use Rattle.model.specs.Terms.{ExtTy, ip, decimals, datetimes, durations, FlatTy,
 -- Bool, Long, String, an entity type and a known extension are taken; so are sets and closed records of what is taken
 abbrev pub flat_taken : Flat → Bool
 flat_taken type.bool = true
-flat_taken type.true-type = false
-flat_taken type.false-type = false
+flat_taken type.true_type = false
+flat_taken type.false_type = false
 flat_taken type.long = true
 flat_taken type.string = true
-flat_taken type.any-entity = false
+flat_taken type.any_entity = false
 flat_taken type.entities = false
-flat_taken type.any-set = false
+flat_taken type.any_set = false
 flat_taken type.never = false
 flat_taken (type.entity n) = true
 flat_taken (type.extension c) = nat_lt 0 c && nat_le c 4
@@ -40,13 +40,13 @@ ext_of_code c = cond (c == 1) decimals (cond (c == 2) ip (cond (c == 3) datetime
 -- the term type of a type without parts; a type that is not taken has one that nothing asks for
 abbrev pub flat_type : Flat → FlatTy
 flat_type type.bool = bool
-flat_type type.true-type = bool
-flat_type type.false-type = bool
+flat_type type.true_type = bool
+flat_type type.false_type = bool
 flat_type type.long = bitvec
 flat_type type.string = string
-flat_type type.any-entity = bool
+flat_type type.any_entity = bool
 flat_type type.entities = bool
-flat_type type.any-set = bool
+flat_type type.any_set = bool
 flat_type type.never = bool
 flat_type (type.entity n) = entity n
 flat_type (type.extension c) = extension (ext_of_code c)

@@ -6,9 +6,9 @@ use Rattle.model.specs.Trees.{Tree, tree, Trees, run_of}
 use Rattle.model.specs.Values.{is_one}
 
 -- the types that are one node: True and False are the types of one Bool alone, `entities` an entity of several types,
--- `any-set` a set without element type, and `extension 0` an extension that is not known
+-- `any_set` a set without element type, and `extension 0` an extension that is not known
 pub data Flat : Type 0 where
-  bool true-type false-type long string any-entity entities any-set never : Flat
+  bool true_type false_type long string any_entity entities any_set never : Flat
   entity : ℕ → Flat
   extension : ℕ → Flat
 
@@ -48,13 +48,13 @@ field name (more m required of rest) = cond (m == name) (Some (required, of)) (f
 -- the kind of the node of a type without parts
 abbrev pub flat_kind : Flat → ℕ
 flat_kind bool = 1
-flat_kind true-type = 2
-flat_kind false-type = 3
+flat_kind true_type = 2
+flat_kind false_type = 3
 flat_kind long = 4
 flat_kind string = 5
-flat_kind any-entity = 7
+flat_kind any_entity = 7
 flat_kind entities = 8
-flat_kind any-set = 11
+flat_kind any_set = 11
 flat_kind never = 14
 flat_kind (entity n) = 6
 flat_kind (extension c) = 9
@@ -62,13 +62,13 @@ flat_kind (extension c) = 9
 -- what that node has in a: the name of an entity type, the code of an extension type, else 0
 abbrev pub flat_part : Flat → ℕ
 flat_part bool = 0
-flat_part true-type = 0
-flat_part false-type = 0
+flat_part true_type = 0
+flat_part false_type = 0
 flat_part long = 0
 flat_part string = 0
-flat_part any-entity = 0
+flat_part any_entity = 0
 flat_part entities = 0
-flat_part any-set = 0
+flat_part any_set = 0
 flat_part never = 0
 flat_part (entity n) = n
 flat_part (extension c) = c
@@ -95,10 +95,10 @@ encode t = run_of (tree_of 0 false t)
 -- the type without parts that a node stands for
 abbrev pub flat_of : Node → Flat
 flat_of n =
-    cond (n.kind == 1) bool (cond (n.kind == 2) true-type (cond (n.kind == 3) false-type
+    cond (n.kind == 1) bool (cond (n.kind == 2) true_type (cond (n.kind == 3) false_type
     (cond (n.kind == 4) long (cond (n.kind == 5) string (cond (n.kind == 6) (entity n.a)
-    (cond (n.kind == 7) any-entity (cond (n.kind == 8) entities (cond (n.kind == 9) (extension n.a)
-    (cond (n.kind == 11) any-set never)))))))))
+    (cond (n.kind == 7) any_entity (cond (n.kind == 8) entities (cond (n.kind == 9) (extension n.a)
+    (cond (n.kind == 11) any_set never)))))))))
 
 -- the element type of a set: the first of its children
 abbrev pub first_type : Tys → Ty
@@ -128,13 +128,13 @@ fields_of (rec o ts) = ts
 -- the entity types that a type names
 abbrev pub flat_names : Flat → List ℕ
 flat_names bool = []
-flat_names true-type = []
-flat_names false-type = []
+flat_names true_type = []
+flat_names false_type = []
 flat_names long = []
 flat_names string = []
-flat_names any-entity = []
+flat_names any_entity = []
 flat_names entities = []
-flat_names any-set = []
+flat_names any_set = []
 flat_names never = []
 flat_names (entity n) = n ∷ []
 flat_names (extension c) = []

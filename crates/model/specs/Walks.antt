@@ -244,13 +244,13 @@ default_ext_value c = cond (c == 1) (decimal (pos 0)) (cond (c == 2) (ipaddr 0 3
 -- the default of a type without parts, where `least` gives the id of an entity type
 abbrev pub default_flat : (ℕ → ℕ) → Flat → value.Primitive
 default_flat least type.bool = value.bool false
-default_flat least type.true-type = value.bool false
-default_flat least type.false-type = value.bool false
+default_flat least type.true_type = value.bool false
+default_flat least type.false_type = value.bool false
 default_flat least type.long = value.long (pos 0)
 default_flat least type.string = value.string 0
-default_flat least type.any-entity = value.bool false
+default_flat least type.any_entity = value.bool false
 default_flat least type.entities = value.bool false
-default_flat least type.any-set = value.bool false
+default_flat least type.any_set = value.bool false
 default_flat least type.never = value.bool false
 default_flat least (type.entity n) = value.uid (n, least n)
 default_flat least (type.extension c) = value.ext (default_ext_value c)

@@ -1,3 +1,3 @@
 mod Ascents
 mod Entering
-mod Keeping
+pub mod Keeping

@@ -5,7 +5,7 @@ use Rattle.model.specs.declared.node.Node.{Node}
 use Rattle.store.proofs.cut.between.Goals as goal
 
 -- a part whose end is clipped to the length and whose beginning to its end is the part itself
-module _ (xs : List Node) (first end f e : ℕ) (f-is : f ≡ min first e) (e-is : e ≡ min end (length xs)) where
+module _ (xs : List Node) (first end f e : ℕ) (f_is : f ≡ min first e) (e_is : e ≡ min end (length xs)) where
   -- the part has what is left behind its beginning
   all_left : (n : ℕ) → length xs ≤ n → take (n - first) (drop first xs) ≡ drop first xs
   all_left n l = let d = length-drop first xs in take_all (n - first) (drop first xs) (omega arith)

@@ -1,0 +1,2 @@
+mod ImageFacts
+mod Telling

@@ -1,0 +1,17 @@
+-- What opening an image answers, in words of lists of entities.
+use Rattle.std.specs.Prelude.{◌≡◌, ℕ, List, Some}
+use Rattle.model.specs.Entities.{Entity}
+use Rattle.model.specs.Stores.{RunsFitParts}
+use Rattle.model.specs.Images.{image_fault, image_of}
+use Rattle.model.specs.Writing.{Storable}
+use Rattle.image.specs.declared.error.ImageError.{ImageError}
+use Rattle.image.specs.declared.error.ImageError.TheVariants.{Fault, NoMemory}
+
+-- the bytes are those of a list that fits
+abbrev pub BytesOf : List ℕ → List Entity → Type 0
+BytesOf bs es = Storable es × RunsFitParts es × (image_of es ≡ bs)
+
+-- a fault is the one foretold, and the bytes are those of no list; want of memory says nothing of the bytes
+abbrev pub ForReason : ImageError → List ℕ → Type 0
+ForReason (Fault f) bs = (image_fault bs ≡ Some f) × ((es : List Entity) → BytesOf bs es → ⊥)
+ForReason NoMemory bs = Unit {0}
