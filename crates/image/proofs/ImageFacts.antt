@@ -1,5 +1,5 @@
 -- Where the runs of an image lie.
-use Rattle.std.proofs.Common.{◌≡◌, ℕ, suc, ◌+◌, ◌-◌, ◌*◌, ◌<◌, ◌≤◌, true, cond, ltb, List, [], ◌∷◌, ◌++◌, map, length, get_or, take, drop, set, Ok, Err, sym, refl, ap, ◌∙◌, subst, ⊎_elim, append_assoc, arith}
+use Rattle.std.proofs.Common.{◌≡◌, ℕ, suc, ◌+◌, ◌-◌, ◌<◌, ◌≤◌, List, [], ◌∷◌, ◌++◌, map, length, get_or, take, drop, set, Ok, Err, sym, refl, ap, ◌∙◌, ⊎_elim, append_assoc, arith}
 use Rattle.std.specs.List.{range_with_len}
 use Rattle.std.proofs.lemmas.Bool.{cases_lt, lt-ltb, le-ltb, cond-true, cond-false, leb-true}
 use Rattle.std.proofs.lemmas.List.FromFn.{length-map-range_with_len, map-range_with_len_more}
@@ -8,7 +8,6 @@ use Rattle.model.specs.declared.node.Node.{Node}
 use Rattle.model.specs.declared.fault.Refusal.TheVariants.{Limit}
 use Rattle.model.specs.declared.fault.Layer.TheVariants.{Entity as entity_layer}
 use Rattle.model.specs.Faults.{whole_call}
-use Rattle.model.specs.Bytes.{within}
 use Rattle.model.specs.Entities.{head_uid}
 use Rattle.model.specs.Stores.{first_at, end_at, run_at, no_such_place, uid_answer, loaded, load_answer}
 use Rattle.model.specs.Images.{entity_count, node_count, entry_offset, first_node, node_offset, image_node, whole_nodes, image_nodes, place_entries, image_entities}

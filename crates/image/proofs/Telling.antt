@@ -1,5 +1,5 @@
 -- The faults in the runs of an image are the same whether its definition tells them or its header.
-use Rattle.std.proofs.Common.{◌≡◌, ℕ, zero, suc, ◌+◌, ◌-◌, ◌*◌, ◌<◌, ◌≤◌, ◌||◌, Bool, cond, List, [], ◌∷◌, ◌++◌, length, get_or, Ok, Err, Result, sym, refl, ap, ◌∙◌, subst, arith}
+use Rattle.std.proofs.Common.{◌≡◌, ℕ, zero, suc, ◌+◌, ◌-◌, ◌<◌, ◌≤◌, ◌||◌, cond, List, [], ◌∷◌, ◌++◌, length, get_or, Ok, Err, Result, sym, refl, ap, ◌∙◌, subst, arith}
 use Rattle.std.specs.Prelude.{◌==◌}
 use Rattle.model.specs.declared.node.Node.{Node}
 use Rattle.model.specs.declared.fault.Fault.{Fault}
@@ -12,7 +12,7 @@ use Rattle.model.specs.Reading.{Refused}
 use Rattle.model.specs.Slots.{uid_below}
 use Rattle.model.specs.Entities.{Entity, head_uid, read_entity}
 use Rattle.model.specs.Stores.{collected, run_at, run_fault, uid_fault, faults_at, run_faults}
-use Rattle.model.specs.Images.{entity_count, first_node, entry_offset, node_offset, image_nodes, place_entries, at_offset}
+use Rattle.model.specs.Images.{entity_count, entry_offset, node_offset, image_nodes, place_entries, at_offset}
 use Rattle.laws.proofs.ReadBytes.{length_entries, entry_is}
 use Rattle.store.specs.Entries.{told, AllBelow}
 use Rattle.image.specs.Headers.{by_offset}

@@ -1,9 +1,9 @@
 -- The orders of the keys of tables are lawful.
 use Rattle.std.proofs.Common.{◌≡◌, cond, eqb, List, ℤ, Ordering, refl, arith}
 use Rattle.std.proofs.lemmas.Bool.Decides.{nat_tests}
-use Rattle.std.specs.Ordering.{ordering_then, is_lt}
+use Rattle.std.specs.Ordering.{is_lt}
 use Rattle.model.specs.Slots.{Uid, uid_below}
-use Rattle.model.specs.Orders.{by_number, by_integers, by_pair}
+use Rattle.model.specs.Orders.{by_number, by_pair}
 use Rattle.model.specs.Environments.{FunctionId, attributes, ancestors, tag_keys, tag_values, function_key, by_uid, by_function, by_function_key, by_tag_key}
 use Rattle.laws.proofs.Numbers.{Lawful, then_same, then_turned, then_follows, number_same, number_turned, number_follows, lawful_by}
 use Rattle.laws.proofs.Keys.{number_at, same_by}

@@ -14,7 +14,7 @@ use Rattle.model.specs.Schemas.{Schema, RequestType}
 use Rattle.model.specs.Environments.{SymEnv, from_concrete_env}
 use Rattle.model.specs.Builds.{built, terms_of, with_request, read_fault, when, limit}
 use Rattle.model.specs.Walks.{Root, Step, Found, foretold, walk_in, walk_fault, ill_typed, large_step}
-use Rattle.model.specs.Live.{Setting, afresh, parts, Call, put, remove, walk, Answer, accepted, refused, gives, absent, by_fault, walk_answer, put_read, unless_refused, put_fault, put_fault_of, one_too_many, present, remove_fault, without_uid, answer, after}
+use Rattle.model.specs.Live.{Setting, afresh, parts, Call, put, remove, walk, Answer, accepted, by_fault, walk_answer, put_read, unless_refused, put_fault, put_fault_of, one_too_many, present, remove_fault, without_uid, answer, after}
 use Rattle.model.specs.Histories.{Serves, puts, put_refused, removes, remove_refused, walks, misses, walk_refused, Goes, ends, goes, Making, setting, Outcome, make_refused, lived, History, refused_make, made}
 use Rattle.laws.specs.HistoryLaws.{HistoriesDetermined}
 use Rattle.laws.proofs.Searches.{or_else_none, mapped_none}

@@ -5,7 +5,7 @@ use Rattle.std.specs.Ordering.{is_lt}
 use Rattle.model.specs.Orders.{Total, by_number}
 use Rattle.model.specs.Slots.{Uid, uid_below}
 use Rattle.model.specs.Environments.{by_uid, by_function_key, by_tag_key}
-use Rattle.model.specs.Terms.{Term, Terms, no_terms, term, order, insert, inserted, term_below, type_below}
+use Rattle.model.specs.Terms.{Term, Terms, no_terms, term, order, inserted, term_below, type_below}
 
 -- one of the terms is t
 abbrev pub Among : Term → Terms → Type 0

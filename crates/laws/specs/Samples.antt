@@ -1,5 +1,5 @@
 -- Small schemas, requests and entities for the worked cases.
-use Rattle.std.specs.Prelude.{ℕ, Bool, true, false, List, [], ◌∷◌, ℤ, pos, negsuc, Some, None, Option}
+use Rattle.std.specs.Prelude.{ℕ, Bool, true, false, List, [], ◌∷◌, ℤ, Some, None}
 use Rattle.model.specs.declared.node.Node.{Node}
 use Rattle.model.specs.Slots.{Uid}
 use Rattle.model.specs.Values as value
@@ -8,7 +8,6 @@ use Rattle.model.specs.Types as type
 use Rattle.model.specs.Types.{Ty, Tys}
 use Rattle.model.specs.Entities.{Entity, Request}
 use Rattle.model.specs.Schemas.{Schema, standard, enum, RequestType}
-use Rattle.model.specs.Builds.{Sizes}
 use Rattle.model.specs.Live.{Setting}
 
 abbrev pub long_type : Ty

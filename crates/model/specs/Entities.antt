@@ -1,5 +1,5 @@
 -- Entities and requests, and their runs.
-use Rattle.std.specs.Prelude.{◌≡◌, ℕ, ◌+◌, ◌≤◌, Bool, true, false, ◌&&◌, List, [], ◌∷◌, ◌++◌, map, length, ℤ, pos, negsuc, Some, None, Ok, Err, Result, ◌==◌, nat_le}
+use Rattle.std.specs.Prelude.{◌≡◌, ◌+◌, ◌≤◌, true, false, ◌&&◌, List, [], ◌∷◌, ◌++◌, map, length, pos, None, Ok, Result, ◌==◌, nat_le}
 use Rattle.model.specs.declared.node.Node.{Node}
 use Rattle.model.specs.Trees.{Tree, tree, Trees, none, more, root, run_of, runs_of, nesting, nestings}
 use Rattle.model.specs.declared.slot.Slot.{Slot}

@@ -1,5 +1,5 @@
 -- Symbolic environments, as in Lean SymCC: of a schema and a request type, and literal ones of a request and entities.
-use Rattle.std.specs.Prelude.{◌≡◌, ℕ, Bool, true, false, cond, List, [], ◌∷◌, ℤ, pos, is_some, Some, None, Option, ◌==◌, nat_eq}
+use Rattle.std.specs.Prelude.{◌≡◌, ℕ, true, false, cond, List, [], ◌∷◌, ℤ, pos, is_some, Some, None, Option, ◌==◌, nat_eq}
 use Rattle.std.specs.declared.cmp.Ordering.{Ordering}
 use Rattle.model.specs.Options.{find, filter, mapped}
 use Rattle.model.specs.Slots.{Uid}

@@ -1,6 +1,5 @@
 -- Trees that a layout takes, and that keep the limits.
-use Rattle.std.specs.Prelude.{◌≡◌, ℕ, ◌≤◌, Bool, true, ◌&&◌, ◌==◌}
-use Rattle.model.specs.declared.node.Node.{Node}
+use Rattle.std.specs.Prelude.{◌≡◌, ◌≤◌, Bool, true, ◌&&◌, ◌==◌}
 use Rattle.model.specs.Trees.{Tree, tree, Trees, none, more, root, count, size, nesting}
 use Rattle.model.specs.declared.slot.Slot.{Slot}
 use Rattle.model.specs.Slots.{next}

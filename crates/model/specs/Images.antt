@@ -1,7 +1,7 @@
 -- The image of a store: a header of four u32 (entities E, nodes V, offset of the place list, offset of the nodes),
 -- the place list of E u32, each the index of the first node of an entity's run, and V nodes of 24 bytes.
 -- Every fault of an image lies in the image layer, at the offset of a header field, list entry or node.
-use Rattle.std.specs.Prelude.{ℕ, zero, suc, ◌+◌, ◌-◌, ◌*◌, ◌/◌, ◌%◌, min, Bool, cond, ◌&&◌, ◌||◌, List, [], ◌∷◌, ◌++◌, map, length, take, drop, Some, None, Ok, Err, Option, ◌==◌, nat_le, nat_lt}
+use Rattle.std.specs.Prelude.{ℕ, zero, suc, ◌+◌, ◌-◌, ◌*◌, ◌/◌, ◌%◌, min, Bool, cond, ◌&&◌, List, [], ◌∷◌, ◌++◌, map, length, take, drop, Some, None, Ok, Err, Option, ◌==◌, nat_le, nat_lt}
 use Rattle.std.specs.Int.{w64}
 use Rattle.std.proofs.Common.{of_z}
 use Rattle.std.specs.List.{range_with_len}

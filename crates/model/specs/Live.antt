@@ -1,6 +1,6 @@
 -- Live environments: what `put`, `remove` and `walk` answer, judged by the list of entities before the call, and the list
 -- after it. What `make` answers is `built` with the check.
-use Rattle.std.specs.Prelude.{ℕ, ◌+◌, Bool, true, false, cond, not, ◌&&◌, ◌||◌, List, [], ◌∷◌, length, is_some, Some, None, Ok, Err, Option, Result, ◌==◌, nat_le, nat_lt}
+use Rattle.std.specs.Prelude.{ℕ, ◌+◌, Bool, cond, not, ◌&&◌, ◌||◌, List, [], ◌∷◌, length, is_some, Some, None, Ok, Err, Option, Result, ◌==◌, nat_le, nat_lt}
 use Rattle.model.specs.declared.node.Node.{Node}
 use Rattle.model.specs.declared.fault.Fault.{Fault}
 use Rattle.model.specs.declared.fault.Refusal.TheVariants.{UnableToSymbolizeValue, NonConforming, NotStored, IllTypedWalk}

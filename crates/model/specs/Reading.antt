@@ -1,7 +1,7 @@
 -- Reading a run: the tree, or the refusal and the node at which it stands, counted from 1.
 -- A broken layout stands before a passed limit, and of each the first node. Reading stops at the first node that nests
 -- deeper than 16 and at node 4,097: that node is still judged, and what lies behind it is not read.
-use Rattle.std.specs.Prelude.{ℕ, zero, suc, ◌+◌, Bool, true, false, cond, ◌&&◌, ◌||◌, List, [], ◌∷◌, Some, None, Ok, Err, Option, Result, nat_le}
+use Rattle.std.specs.Prelude.{ℕ, zero, suc, ◌+◌, Bool, true, false, cond, ◌||◌, List, [], ◌∷◌, Some, None, Ok, Err, Option, Result, nat_le}
 use Rattle.model.specs.declared.node.Node.{Node}
 use Rattle.model.specs.declared.fault.Refusal.{Refusal}
 use Rattle.model.specs.declared.fault.Refusal.TheVariants.{Malformed, Limit}

@@ -1,5 +1,5 @@
 -- Runs of nodes as trees. A run lists a node and then its children in turn.
-use Rattle.std.specs.Prelude.{ℕ, zero, suc, ◌+◌, max, List, [], ◌∷◌, ◌++◌}
+use Rattle.std.specs.Prelude.{ℕ, suc, ◌+◌, max, List, [], ◌∷◌, ◌++◌}
 use Rattle.model.specs.declared.node.Node.{Node}
 
 mutual

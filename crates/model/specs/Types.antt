@@ -1,5 +1,5 @@
 -- Cedar's types, and their trees of nodes.
-use Rattle.std.specs.Prelude.{ℕ, zero, suc, ◌+◌, Bool, true, false, cond, ◌||◌, List, [], ◌∷◌, ◌++◌, ℤ, pos, Some, None, Option, ◌==◌}
+use Rattle.std.specs.Prelude.{ℕ, suc, ◌+◌, Bool, true, false, cond, List, [], ◌∷◌, ◌++◌, pos, Some, None, Option, ◌==◌}
 use Rattle.model.specs.declared.node.Node.{Node}
 use Rattle.model.specs.Trees as trees
 use Rattle.model.specs.Trees.{Tree, tree, Trees, run_of}

@@ -1,5 +1,5 @@
 -- Cedar's values, and their trees of nodes.
-use Rattle.std.specs.Prelude.{ℕ, zero, suc, ◌+◌, ◌-◌, Bool, true, false, cond, List, ℤ, pos, negsuc, Some, None, Option, ◌==◌}
+use Rattle.std.specs.Prelude.{ℕ, zero, suc, ◌+◌, Bool, false, cond, List, ℤ, pos, negsuc, Some, None, Option, ◌==◌}
 use Rattle.model.specs.declared.node.Node.{Node}
 use Rattle.model.specs.Nodes.{plain, under}
 use Rattle.model.specs.Slots.{Uid}

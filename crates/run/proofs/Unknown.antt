@@ -1,5 +1,5 @@
 -- What the definitions say of a node whose kind is none of the numbers.
-use Rattle.std.proofs.Common.{◌≡◌, ℕ, ◌<◌, Bool, true, false, None, arith}
+use Rattle.std.proofs.Common.{◌≡◌, ℕ, ◌<◌, true, false, None, arith}
 use Rattle.std.proofs.lemmas.Bool.Decides.{nat_tests}
 use Rattle.model.specs.declared.node.Node.{Node}
 use Rattle.model.specs.declared.kind.ValueKind.TheVariants as value

@@ -1,4 +1,4 @@
-use Rattle.std.proofs.Common.{◌≡◌, ℕ, List, Ok, sym, ap, subst}
+use Rattle.std.proofs.Common.{◌≡◌, ℕ, List, Ok, sym, subst}
 use Rattle.model.specs.Checks.{then, after}
 use Rattle.model.specs.Images.{header, place_list}
 use Rattle.model.proofs.Turns.{after_good}

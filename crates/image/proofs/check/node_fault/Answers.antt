@@ -1,8 +1,7 @@
-use Rattle.std.proofs.Common.{◌≡◌, ℕ, List, ◌++◌, map, None, Option, sym, refl, ap, ◌∙◌, subst, arith}
+use Rattle.std.proofs.Common.{◌≡◌, ℕ, List, ◌++◌, map, None, Option, sym, ap, ◌∙◌, subst, arith}
 use Rattle.std.specs.List.{range_with_len}
 use Rattle.model.specs.declared.fault.Fault.{Fault}
 use Rattle.model.specs.declared.node.Node.{Node}
-use Rattle.model.specs.Checks.{Checked}
 use Rattle.model.specs.Faults.{least, least_with}
 use Rattle.model.specs.Stores.{run_faults}
 use Rattle.model.specs.Images.{entity_count, node_count, first_node, nodes_there, ends, counts, fault_of, image_nodes, place_entries, node_faults}

@@ -1,4 +1,4 @@
-use Rattle.std.proofs.Common.{sym, ap, ◌∙◌}
+use Rattle.std.proofs.Common.{ap, ◌∙◌}
 use Rattle.model.specs.Images.{image_node, node_offset}
 use Rattle.model.specs.Bytes.{node_at}
 use Rattle.laws.proofs.Counts.{counted_on}

@@ -1,7 +1,7 @@
 use Rattle.std.proofs.Common.{◌≡◌, ℕ, List, Ok, Err, sym, ap, ◌∙◌}
 use Rattle.std.proofs.lemmas.Result.{err_from_is_err_and}
 use Rattle.model.specs.declared.fault.Fault.{Fault}
-use Rattle.model.specs.Checks.{good, then, after}
+use Rattle.model.specs.Checks.{then, after}
 use Rattle.model.specs.Images.{header, body, frame}
 use Rattle.model.proofs.Turns.{after_good}
 use Rattle.image.specs.declared.frame.Header.{Header}

@@ -1,4 +1,4 @@
-use Rattle.std.proofs.Common.{◌≡◌, ◌+◌, ◌++◌, map, drop}
+use Rattle.std.proofs.Common.{◌≡◌, ◌++◌, map, drop}
 use Rattle.std.specs.List.{range_with_len}
 use Rattle.model.specs.Images.{image_node}
 use Rattle.image.proofs.reads.copy_nodes.Given as goal

@@ -1,6 +1,6 @@
 use Rattle.std.proofs.Common.{◌≡◌, ◌<◌, sym, ap, ◌∙◌, subst, arith}
 use Rattle.model.specs.Bytes.{u32_at}
-use Rattle.model.specs.Images.{first_node, node_count}
+use Rattle.model.specs.Images.{first_node}
 use Rattle.image.specs.Faultless.{imaged, end_node}
 use Rattle.image.proofs.ImageFacts.{entry_there, node_there, first_before, end_within}
 use Rattle.image.proofs.reads.first_in.Goals as goal

@@ -1,4 +1,4 @@
-use Rattle.std.proofs.Common.{◌≡◌, Err, sym, ap, ◌∙◌, subst, arith}
+use Rattle.std.proofs.Common.{◌≡◌, Err, ap, ◌∙◌, arith}
 use Rattle.model.specs.Bytes.{node_at}
 use Rattle.model.specs.Images.{entity_count, node_offset, first_node, image_node}
 use Rattle.image.specs.declared.frame.Header.{Header}

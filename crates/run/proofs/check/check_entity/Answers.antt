@@ -1,8 +1,6 @@
-use Rattle.std.proofs.Common.{◌≡◌, ◌≤◌, Ok, Err, Result, sym, refl, ◌∙◌}
-use Rattle.model.specs.Entities.{Entity, read_entity}
-use Rattle.model.specs.Reading.{Refused}
+use Rattle.std.proofs.Common.{◌≤◌, ◌∙◌}
+use Rattle.model.specs.Entities.{read_entity}
 use Rattle.laws.proofs.Places.{near}
-use Rattle.run.specs.Verdicts.{Verdict, verdict}
 use Rattle.run.proofs.EntityVerdict.{entity_is}
 use Rattle.run.proofs.Exactness.{entity_exact, refused_of}
 use Rattle.run.proofs.check.check_entity.Goals as goal

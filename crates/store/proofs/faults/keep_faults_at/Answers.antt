@@ -1,4 +1,4 @@
-use Rattle.std.proofs.Common.{◌≡◌, ap, ◌∙◌}
+use Rattle.std.proofs.Common.{ap, ◌∙◌}
 use Rattle.model.specs.Faults.{least_with}
 use Rattle.model.specs.Entities.{read_entity}
 use Rattle.model.specs.Stores.{run_at, run_fault, uid_fault}

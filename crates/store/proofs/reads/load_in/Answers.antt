@@ -1,6 +1,6 @@
-use Rattle.std.proofs.Common.{◌≡◌, Err, sym, ap, ◌∙◌}
+use Rattle.std.proofs.Common.{Err, sym, ap, ◌∙◌}
 use Rattle.model.specs.Stores.{loaded}
-use Rattle.store.specs.TableFacts.{tabled, load_there, load_nowhere}
+use Rattle.store.specs.TableFacts.{load_there, load_nowhere}
 use Rattle.store.proofs.reads.load_in.Goals as goal
 
 pub returns-then-place-firsts : goal.returns-then-place-firsts

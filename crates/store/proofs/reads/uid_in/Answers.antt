@@ -1,6 +1,6 @@
 use Rattle.std.proofs.Common.{Err, ap, ◌∙◌}
 use Rattle.model.specs.Entities.{head_uid}
-use Rattle.store.specs.TableFacts.{tabled, uid_there, uid_nowhere}
+use Rattle.store.specs.TableFacts.{uid_there, uid_nowhere}
 use Rattle.store.proofs.reads.uid_in.Goals as goal
 
 pub returns-then-place-firsts : goal.returns-then-place-firsts

@@ -1,4 +1,4 @@
-use Rattle.std.proofs.Common.{◌≡◌, ℕ, ◌+◌, ◌-◌, ◌/◌, ◌<◌, ◌≤◌, length, sym, ◌∙◌, subst, arith}
+use Rattle.std.proofs.Common.{◌+◌, ◌-◌, ◌/◌, ◌<◌, length, sym, ◌∙◌, subst, arith}
 use Rattle.store.proofs.Ascents.{Between, at_start, goes_up, goes_down, hits, misses, always_told}
 use Rattle.store.proofs.search.place_of.Goals as goal
 

@@ -1,7 +1,7 @@
 use Rattle.std.proofs.Common.{◌≡◌, ℕ, ◌<◌, List, get_or, is_some, Some, None, Option, sym, refl, ap, ◌∙◌, subst, arith}
 use Rattle.model.specs.declared.fault.Fault.{Fault}
 use Rattle.model.specs.Entities.{Entity}
-use Rattle.model.specs.Images.{image_fault, image_entities}
+use Rattle.model.specs.Images.{image_fault}
 use Rattle.laws.proofs.ImageRuns.{images_read}
 use Rattle.image.specs.Opens.{BytesOf}
 use Rattle.image.proofs.image.Image.open.Goals as goal
