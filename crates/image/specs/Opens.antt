@@ -3,11 +3,11 @@ use Rattle.std.specs.Prelude.{◌≡◌, ℕ, List, Some}
 use Rattle.model.specs.Entities.{Entity}
 use Rattle.model.specs.Stores.{RunsFitParts}
 use Rattle.model.specs.Images.{image_fault, image_of}
-use Rattle.model.specs.Writing.{Storable}
+use Rattle.model.specs.Fitting.{Storable}
 use Rattle.image.specs.declared.error.ImageError.{ImageError}
 use Rattle.image.specs.declared.error.ImageError.TheVariants.{Fault, NoMemory}
 
--- the bytes are those of a list that fits
+-- the bytes are those of a list that fits, whose nodes fit their parts
 abbrev pub BytesOf : List ℕ → List Entity → Type 0
 BytesOf bs es = Storable es × RunsFitParts es × (image_of es ≡ bs)
 

@@ -4,7 +4,7 @@ ghost use Rattle.model.specs.Bytes.{read as read_of, u32_at, i64_at, node_at};
 use model::node::Node;
 
 // Whether `size` bytes stand at `at`.
-pub(crate) fn within(bytes: &[u8], at: usize, size: usize) -> bool
+fn within(bytes: &[u8], at: usize, size: usize) -> bool
     ensures { result ≡ nat_le (at + size) (length bytes.now) }
 {
     size <= bytes.len() && at <= bytes.len() - size

@@ -1,10 +1,9 @@
 // Everything that has to hold of the bytes of an image.
-ghost use Rattle.std.specs.Prelude.{◌≡◌, ℕ, ◌+◌, ◌*◌, ◌<◌, ◌≤◌, true, map, length, IfOk, slice_index};
+ghost use Rattle.std.specs.Prelude.{◌≡◌, ℕ, ◌<◌, ◌≤◌, map, length, IfOk, slice_index};
 ghost use Rattle.std.specs.List.{range_with_len};
-ghost use Rattle.model.specs.Bytes.{node_at};
 ghost use Rattle.model.specs.Checks.{then, after};
 ghost use Rattle.model.specs.Faults.{least, least_with};
-ghost use Rattle.model.specs.Images.{header as header_of, entry as entry_of, place_list, first_node, node_offset, node_there, nodes_there, ends, counts, fault_of, image_node, image_nodes, whole_nodes, place_entries, node_faults, image_fault};
+ghost use Rattle.model.specs.Images.{header as header_of, place_list, first_node, node_offset, fault_of, image_nodes, whole_nodes, node_faults, image_fault};
 ghost use Rattle.image.specs.Headers.{announced, Listed};
 
 use crate::bytes::{node_at, u32_at};
@@ -83,7 +82,8 @@ fn node_fault(heap: Global, bytes: &[u8], header: Header) -> Result<Option<Fault
     Ok(keep_run_faults(&header, least, nodes.as_slice(), firsts.as_slice()))
 }
 
-// What opening an image refuses: a broken header or place list stands alone, else the least fault.
+// What opening an image refuses: a broken header or place list stands alone, else the least fault. Beside it stands what a
+// caller wants to know of the same bytes, that each is below 256.
 pub(crate) fn image_fault(heap: Global, bytes: &[u8]) -> Result<Option<Fault>, AllocError>
     ensures is { IfOk result (λ f. f ≡ image_fault bytes.now) }
     ensures small { (i : ℕ) → slice_index bytes.now i < 256 }

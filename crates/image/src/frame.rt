@@ -1,4 +1,4 @@
-ghost use Rattle.std.specs.Prelude.{◌≡◌, ◌+◌, ◌*◌, cond, List, Ok, Err};
+ghost use Rattle.std.specs.Prelude.{◌≡◌, ◌+◌, ◌*◌, Ok, Err};
 ghost use Rattle.model.specs.Bytes.{within, u32_at, node_at, read};
 ghost use Rattle.model.specs.Checks.{after};
 ghost use Rattle.model.specs.Images.{laid_out, header as header_of, entry as entry_of, place_list, entry_offset, first_node, numbered, node_offset, node_there, nodes_there, ends, counts, body as body_of, frame as frame_of};
@@ -17,7 +17,7 @@ pub struct Header {
 }
 
 // What must hold at an offset, else the layout is broken there.
-pub(crate) fn require(holds: bool, offset: usize) -> Result<(), Fault>
+fn require(holds: bool, offset: usize) -> Result<(), Fault>
     ensures { result ≡ laid_out holds offset }
 {
     if holds {
@@ -28,7 +28,7 @@ pub(crate) fn require(holds: bool, offset: usize) -> Result<(), Fault>
 }
 
 // The u32 of a header field or list entry, which has to be there.
-pub(crate) fn field(bytes: &[u8], offset: usize) -> Result<u32, Fault>
+fn field(bytes: &[u8], offset: usize) -> Result<u32, Fault>
     ensures { result ≡ after (laid_out (within bytes.now offset 4) offset) (u32_at bytes.now offset) }
 {
     match read_u32(bytes, offset) {

@@ -3,14 +3,15 @@ ghost use Rattle.image.specs.Headers.{by_offset};
 
 use crate::frame::Header;
 use model::fault::{Fault, Layer, Refusal};
-use store::places::Places;
+use store::fault_places::FaultPlaces;
 
-impl Places for Header {
+impl FaultPlaces for Header {
     ghost telling = { λ h. by_offset h.entities };
 
     ghost room = { λ _. 4294967296 };
 
     fn fault(&self, _run: usize, first: usize, node: usize, refusal: Refusal) -> Fault {
+        // within the room no sum reaches its bound
         let header = *self;
         let nodes = first.saturating_add(node).saturating_sub(1);
         let offset = nodes

@@ -47,7 +47,8 @@ impl Image {
 #[cfg(test)]
 mod tests {
     use super::*;
-    use crate::error::ImageError;
+    use crate::view::View;
+    use model::node::Node;
     use std::test::Fail;
     use store::store::Store;
 
@@ -72,7 +73,19 @@ mod tests {
     #[test]
     fn opens_a_bare_entity(rt: HostRuntime) -> Result<(), Fail> {
         let bytes = Vec::from_slice(rt.alloc(), &BARE)?;
-        assert_eq!(rt; opened(rt.alloc(), bytes), Ok(1));
+        let Ok(image) = Image::open(rt.alloc(), bytes) else {
+            assert!(rt; false, "refused");
+            return Ok(());
+        };
+        let mut buffer = [Node::new(0, 0, 0, 0); 3];
+        assert_eq!(rt; image.count(), 1);
+        assert!(rt; matches!(image.uid(0), Ok((2, 1))));
+        assert!(rt; matches!(image.load(0, &mut buffer), Ok(2)));
+        assert_eq!(rt; [buffer[0].kind, buffer[1].kind, buffer[2].kind], [9, 6, 0]);
+        assert!(rt; matches!(image.view(0), Some(View::Entity { offset: 20, .. })));
+        assert!(rt; matches!(image.view(1), Some(View::Record { offset: 44, .. })));
+        assert!(rt; image.view(2).is_none());
+        assert_eq!(rt; image.into_bytes().as_slice(), BARE.as_slice());
         Ok(())
     }
 

@@ -1,8 +1,8 @@
 // What an image answers, over its bytes.
-ghost use Rattle.std.specs.Prelude.{◌≡◌, ◌+◌, ◌-◌, ◌*◌, ◌<◌, ◌≤◌, ◌++◌, map, length, drop};
+ghost use Rattle.std.specs.Prelude.{◌≡◌, ◌+◌, ◌-◌, ◌<◌, ◌≤◌, ◌++◌, map, length, drop};
 ghost use Rattle.std.specs.List.{range_with_len};
 ghost use Rattle.model.specs.Stores.{uid_answer, load_answer};
-ghost use Rattle.model.specs.Images.{entity_count, node_count, first_node, node_offset, image_node, image_entities};
+ghost use Rattle.model.specs.Images.{entity_count, first_node, node_offset, image_node, image_entities};
 ghost use Rattle.image.specs.Faultless.{Faultless, end_node};
 ghost use Rattle.image.specs.Headers.{announced};
 

@@ -1,8 +1,8 @@
 ghost use Rattle.std.specs.Prelude.{◌≡◌, ◌+◌, ◌≤◌, length, take, drop};
+ghost use Rattle.model.specs.Kinds.{Known};
 ghost use Rattle.model.specs.Options.{mapped};
 ghost use Rattle.model.specs.Images.{image_view};
 ghost use Rattle.image.specs.Faultless.{Faultless};
-ghost use Rattle.laws.proofs.NodeKinds.{Known};
 ghost use Rattle.image.specs.Views.{shown, viewed};
 
 use crate::bytes::u32_at;

@@ -8,13 +8,14 @@ use Rattle.model.specs.Faults.{least}
 use Rattle.model.specs.Entities.{Entity, entity_run}
 use Rattle.model.specs.Stores.{AllFitParts, RunsFitParts, run_faults, entities_of}
 use Rattle.model.specs.Images.{entity_count, node_count, header, place_list, nodes_there, ends, counts, image_nodes, place_entries, at_offset, fault_of, node_faults, unless_broken, image_fault, image_entities, image_of, entity_runs, first_nodes, node_offset, low_bytes, node_bytes, joined}
-use Rattle.model.specs.Writing.{Storable, written}
+use Rattle.model.specs.Fitting.{Storable}
+use Rattle.laws.proofs.Written.{written}
 use Rattle.laws.specs.ImageLaws.{ImagesRead}
 use Rattle.laws.proofs.ChecksPass.{require_holds, then_parts, then_passes}
 use Rattle.laws.proofs.WholeRuns.{Whole, no_least, none_of_two, runs_whole, whole_runs}
 use Rattle.laws.proofs.TableRuns.{covers, first_nodes_length, first_nodes_below, stands, read_back, whole_storable}
 use Rattle.laws.proofs.ReadBytes.{length_entries, length_nodes, no_nodes, none_broken, nodes_fit, read_written}
-use Rattle.laws.proofs.WrittenBytes.{Writable, header_back, entries_back, nodes_back, nodes_there_back, ends_back, counts_back, place_list_back}
+use Rattle.laws.proofs.WrittenBytes.{bytes_below, Writable, header_back, entries_back, nodes_back, nodes_there_back, ends_back, counts_back, place_list_back}
 
 -- bytes of which no fault is found
 pub record Imaged (bs : List ℕ) : Type 0 where
@@ -143,6 +144,7 @@ image_back bs small i =
 
 pub images_read : ImagesRead
 images_read = record {
+  bytes = λ es. bytes_below (entity_runs es) (first_nodes 0 es) (image_of es) (image_is es);
   every = λ es s f. (accepted es s f (image_of es) (image_is es), meant es s f (image_of es) (image_is es));
   only = λ bs small h.
       let i = image_whole bs h in

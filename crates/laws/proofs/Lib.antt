@@ -31,4 +31,5 @@ mod TypeOrder
 mod TypeTrees
 mod ValueTrees
 pub mod WholeRuns
+pub mod Written
 pub mod WrittenBytes

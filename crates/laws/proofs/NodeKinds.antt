@@ -5,6 +5,7 @@ use Rattle.std.proofs.lemmas.Bool.{and_parts}
 use Rattle.std.proofs.lemmas.Bool.Decides.{nat_tests}
 use Rattle.std.proofs.ByRecursion.{All-append, All-get_or}
 use Rattle.model.specs.declared.node.Node.{Node}
+use Rattle.model.specs.Kinds.{Known}
 use Rattle.model.specs.Trees.{Tree, tree, Trees, none, more, root, count, run_of, runs_of}
 use Rattle.model.specs.declared.slot.Slot.{Slot}
 use Rattle.model.specs.declared.slot.Slot.TheVariants.{Named, ARecord}
@@ -17,10 +18,6 @@ use Rattle.model.specs.Stores.{AllFormed, entities_of}
 use Rattle.model.specs.Images.{entity_runs}
 use Rattle.laws.proofs.WholeRuns.{Whole, entities_lawful}
 use Rattle.laws.proofs.TableRuns.{covers}
-
--- the kind of a node of a value, or that of an entity's head
-abbrev pub Known : ℕ → Type 0
-Known k = ((1 ≤ k) × (k ≤ 7)) ⊎ (k ≡ 9)
 
 -- a kind that is known and none of a value's is that of a head
 pub known_head : (k : ℕ) → Known k → (k ≡ 1 → ⊥) → (k ≡ 2 → ⊥) → (k ≡ 3 → ⊥) → (k ≡ 4 → ⊥) → (k ≡ 5 → ⊥) → (k ≡ 6 → ⊥) → (k ≡ 7 → ⊥) → k ≡ 9

@@ -11,7 +11,7 @@ use Rattle.model.specs.Nodes.{FitsParts}
 use Rattle.model.specs.Stores.{first_at, entry_sound, broken_entry, AllFitParts}
 use Rattle.model.specs.Checks.{good}
 use Rattle.model.specs.Images.{entity_count, node_count, entry_offset, first_node, node_offset, header, entry, place_list, node_there, nodes_there, ends, image_node, whole_nodes, image_nodes, place_entries, low_bytes, node_bytes, joined}
-use Rattle.model.specs.Writing.{written}
+use Rattle.laws.proofs.Written.{written}
 use Rattle.laws.proofs.ChecksPass.{require_holds, then_parts, each_parts}
 use Rattle.laws.proofs.WholeRuns.{none_found}
 

@@ -8,7 +8,7 @@ use Rattle.model.specs.Reading.{Refused}
 use Rattle.model.specs.Entities.{Entity, FormedEntity, entity_run, read_entity, head_uid}
 use Rattle.model.specs.Stores.{AllFormed, UidsAscend, first_at, end_at, run_at, collected, entity_if_read, entities_of}
 use Rattle.model.specs.Images.{entity_runs, first_nodes}
-use Rattle.model.specs.Writing.{Storable}
+use Rattle.model.specs.Fitting.{Storable}
 use Rattle.laws.specs.TableLaws.{TablesRead}
 use Rattle.laws.proofs.EntityRuns.{entities_read}
 use Rattle.laws.proofs.WholeRuns.{sound, sound_entries, Whole, listed_more, entities_lawful, table_whole, whole_table}

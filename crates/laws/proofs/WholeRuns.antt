@@ -35,20 +35,6 @@ beyond_last (e ∷ es) (suc k) l = at_suc e es k ∙ beyond_last es k (omega ari
 
 -- Searches and entries
 
--- a turn of a search, whose invariant is that the search that is left gives the answer
-module _ (p : ℕ → Bool) (n i : ℕ) (h : i < n) where
-  -- the search that is left, one turn on
-  index_more : first_index p (n - i) i ≡ cond (p i) (Some i) (first_index p (n - (i + 1)) (i + 1))
-  index_more = let e : n - i ≡ suc (n - (i + 1)) = omega arith in ap (λ k. first_index p k i) e
-
-  -- where the number fails the test, the search goes on
-  pub index_on : {r : Option ℕ} → p i ≡ false → first_index p (n - i) i ≡ r → first_index p (n - (i + 1)) (i + 1) ≡ r
-  index_on e inv = sym (cond-false (p i) (Some i) (first_index p (n - (i + 1)) (i + 1)) e) ∙ sym index_more ∙ inv
-
-  -- and where it passes, the search ends
-  pub index_off : {r : Option ℕ} → p i ≡ true → first_index p (n - i) i ≡ r → Some i ≡ r
-  index_off e inv = ap (λ b. cond b (Some i) (first_index p (n - (i + 1)) (i + 1))) (sym e) ∙ sym index_more ∙ inv
-
 -- where a search finds nothing, no number passes the test
 pub none_passes : (p : ℕ → Bool) (n i : ℕ) → first_index p n i ≡ None → (k : ℕ) → i ≤ k → k < i + n → p k ≡ false
 none_passes p zero i h k l m = absurd (omega arith)

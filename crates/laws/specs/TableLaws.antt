@@ -4,7 +4,7 @@ use Rattle.model.specs.declared.node.Node.{Node}
 use Rattle.model.specs.Entities.{Entity}
 use Rattle.model.specs.Stores.{entities_of, table_fault}
 use Rattle.model.specs.Images.{entity_runs, first_nodes}
-use Rattle.model.specs.Writing.{Storable}
+use Rattle.model.specs.Fitting.{Storable}
 
 -- a table is made of exactly the runs of a list that fits, and then means that list
 pub record TablesRead : Type 0 where

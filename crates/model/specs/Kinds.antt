@@ -1,5 +1,5 @@
 -- The numbers that stand for the kinds of values, of types and of extensions in a node.
-use Rattle.std.specs.Prelude.{◌≡◌, ℕ, Some, None, Option, ◌≢◌}
+use Rattle.std.specs.Prelude.{◌≡◌, ℕ, ◌≤◌, ◌⊎◌, Some, None, Option, ◌≢◌}
 use Rattle.model.specs.declared.kind.ValueKind.{ValueKind}
 use Rattle.model.specs.declared.kind.ValueKind.TheVariants as value
 use Rattle.model.specs.declared.kind.TypeKind.{TypeKind}
@@ -45,3 +45,7 @@ type_number type.Never = 14
 abbrev pub Numbered : {K : Type 0} → (K → ℕ) → ℕ → Option K → Type 0
 Numbered number n (Some k) = number k ≡ n
 Numbered {K} number n None = (k : K) → number k ≢ n
+
+-- the kind of a node of a value, or that of an entity's head
+abbrev pub Known : ℕ → Type 0
+Known k = ((1 ≤ k) × (k ≤ 7)) ⊎ (k ≡ 9)

@@ -5,6 +5,7 @@ pub mod Conforms
 pub mod Entities
 pub mod Environments
 pub mod Faults
+pub mod Fitting
 pub mod Formed
 pub mod Histories
 pub mod Images
@@ -25,4 +26,3 @@ pub mod Trees
 pub mod Types
 pub mod Values
 pub mod Walks
-pub mod Writing

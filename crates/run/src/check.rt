@@ -96,7 +96,7 @@ fn entity_parts(run: &[Node]) -> Result<(), Refused>
     finish(run, rest)
 }
 
-// Whether a run is that of an entity.
+// Whether a run is that of an entity. No node beyond the 4,097th is named, since reading stops there.
 pub fn check_entity(run: &[Node]) -> Result<(), Refused>
     ensures is { result ≡ verdict (read_entity run.now) }
     ensures exact { Exact FormedEntity entity_run run.now result }

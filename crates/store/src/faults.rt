@@ -1,13 +1,13 @@
 // The faults of nodes that a list of first nodes cuts into runs.
-ghost use Rattle.std.specs.Prelude.{◌≡◌, ◌==◌, ◌-◌, ◌<◌, ◌≤◌, ◌++◌, ◌||◌, length};
+ghost use Rattle.std.specs.Prelude.{◌≡◌, ◌==◌, ◌-◌, ◌<◌, ◌≤◌, ◌||◌, length};
 ghost use Rattle.model.specs.Faults.{least, least_with};
 ghost use Rattle.model.specs.Slots.{uid_below};
 ghost use Rattle.model.specs.Entities.{read_entity, head_uid};
-ghost use Rattle.model.specs.Stores.{first_at, run_at, run_fault, uid_fault, faults_at, run_faults, run_holding, at_node, fault_if, table_faults, table_fault};
+ghost use Rattle.model.specs.Stores.{first_at, run_at, run_fault, uid_fault, faults_at, run_faults, run_holding, at_node, table_faults, table_fault};
 ghost use Rattle.store.specs.Entries.{told, AllBelow};
 
 use crate::cut::{broken_entry, run_at, uid_of};
-use crate::places::{ByEntity, Places};
+use crate::fault_places::{ByEntity, FaultPlaces};
 use crate::search::below;
 use model::fault::{Fault, Refusal};
 use model::limits;
@@ -15,14 +15,14 @@ use model::node::Node;
 use run::check::check_entity;
 
 // The least fault so far, and that of reading the run `k`.
-fn keep_run_fault<P: Places>(
+fn keep_run_fault<P: FaultPlaces>(
     places: &P,
     kept: Option<Fault>,
     run: &[Node],
     firsts: &[usize],
     k: usize,
 ) -> Option<Fault>
-    ensures { first_at firsts.now k < P.Places.room places.now → result ≡ least_with kept (run_fault (told (P.Places.telling places.now) firsts.now) k (read_entity run.now)) }
+    ensures { first_at firsts.now k < P.FaultPlaces.room places.now → result ≡ least_with kept (run_fault (told (P.FaultPlaces.telling places.now) firsts.now) k (read_entity run.now)) }
 {
     match check_entity(run) {
         Ok(()) => kept,
@@ -46,7 +46,7 @@ fn uid_ascends(nodes: &[Node], firsts: &[usize], k: usize) -> bool
 }
 
 // The least fault so far, and that of a uid which is not above the one before.
-fn keep_uid_fault<P: Places>(
+fn keep_uid_fault<P: FaultPlaces>(
     places: &P,
     kept: Option<Fault>,
     nodes: &[Node],
@@ -54,7 +54,7 @@ fn keep_uid_fault<P: Places>(
     k: usize,
 ) -> Option<Fault>
     requires { k < length firsts.now }
-    ensures { first_at firsts.now k < P.Places.room places.now → result ≡ least_with kept (uid_fault (told (P.Places.telling places.now) firsts.now) nodes.now firsts.now k) }
+    ensures { first_at firsts.now k < P.FaultPlaces.room places.now → result ≡ least_with kept (uid_fault (told (P.FaultPlaces.telling places.now) firsts.now) nodes.now firsts.now k) }
 {
     if uid_ascends(nodes, firsts, k) {
         return kept;
@@ -64,7 +64,7 @@ fn keep_uid_fault<P: Places>(
 }
 
 // The least fault so far, and those of the run `k`.
-fn keep_faults_at<P: Places>(
+fn keep_faults_at<P: FaultPlaces>(
     places: &P,
     kept: Option<Fault>,
     nodes: &[Node],
@@ -72,20 +72,21 @@ fn keep_faults_at<P: Places>(
     k: usize,
 ) -> Option<Fault>
     requires { k < length firsts.now }
-    ensures { first_at firsts.now k < P.Places.room places.now → result ≡ least_with kept (faults_at (told (P.Places.telling places.now) firsts.now) nodes.now firsts.now k) }
+    ensures { first_at firsts.now k < P.FaultPlaces.room places.now → result ≡ least_with kept (faults_at (told (P.FaultPlaces.telling places.now) firsts.now) nodes.now firsts.now k) }
 {
     let kept = keep_run_fault(places, kept, run_at(nodes, firsts, k), firsts, k);
     keep_uid_fault(places, kept, nodes, firsts, k)
 }
 
-// The least fault so far, and those of all runs that the list of first nodes cuts the nodes into.
-pub fn keep_run_faults<P: Places>(
+// The least fault so far, and those of all runs that the list of first nodes cuts the nodes into, where each first node can
+// be told.
+pub fn keep_run_faults<P: FaultPlaces>(
     places: &P,
     kept: Option<Fault>,
     nodes: &[Node],
     firsts: &[usize],
 ) -> Option<Fault>
-    ensures { AllBelow (P.Places.room places.now) firsts.now → result ≡ least_with kept (run_faults (told (P.Places.telling places.now) firsts.now) nodes.now firsts.now) }
+    ensures { AllBelow (P.FaultPlaces.room places.now) firsts.now → result ≡ least_with kept (run_faults (told (P.FaultPlaces.telling places.now) firsts.now) nodes.now firsts.now) }
 {
     let mut least = kept;
     for k in 0..firsts.len() {

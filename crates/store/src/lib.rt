@@ -2,9 +2,9 @@
 #![tactic(auto)]
 
 pub(crate) mod cut;
+pub mod fault_places;
 pub mod faults;
 pub mod open;
-pub mod places;
 pub(crate) mod reads;
 pub mod search;
 pub mod store;

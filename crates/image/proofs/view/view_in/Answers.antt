@@ -2,7 +2,8 @@ use Rattle.std.proofs.Common.{◌≡◌, sym, ap, ◌∙◌, subst, arith}
 use Rattle.model.specs.declared.node.Node.{Node}
 use Rattle.model.specs.Bytes.{u32_at}
 use Rattle.model.specs.Images.{entity_count, node_count, node_offset, image_node, image_nodes, place_entries}
-use Rattle.laws.proofs.NodeKinds.{Known, kinds}
+use Rattle.model.specs.Kinds.{Known}
+use Rattle.laws.proofs.NodeKinds.{kinds}
 use Rattle.laws.proofs.ReadBytes.{length_nodes, node_is}
 use Rattle.image.specs.declared.frame.Header.{Header}
 use Rattle.image.specs.Faultless.{imaged}

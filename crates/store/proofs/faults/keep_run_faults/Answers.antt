@@ -5,5 +5,5 @@ use Rattle.store.proofs.faults.keep_run_faults.Goals as goal
 
 pub loop-k-preserved : goal.loop-k-preserved
 loop-k-preserved g c = λ low.
-    let at = told (g.P.Places.telling c.args.places.now) c.args.firsts.now in
+    let at = told (g.P.FaultPlaces.telling c.args.places.now) c.args.firsts.now in
     keeps_on (faults_at at c.args.nodes.now c.args.firsts.now) _ _ c.loop-k-test.true c.loop-k.least _ (c.keep_faults_at-least.ensures (low c.loop-k.k c.loop-k-test.true)) (c.loop-k.invariant low)
