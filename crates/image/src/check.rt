@@ -1,10 +1,11 @@
 // Everything that has to hold of the bytes of an image.
-ghost use Rattle.std.specs.Prelude.{◌≡◌, ℕ, ◌<◌, ◌≤◌, map, length, IfOk, slice_index};
+ghost use Rattle.std.specs.Prelude.{◌≡◌, ℕ, ◌<◌, ◌≤◌, map, length, IfOk, IfErr, slice_index};
 ghost use Rattle.std.specs.List.{range_with_len};
 ghost use Rattle.model.specs.Checks.{then, after};
 ghost use Rattle.model.specs.Faults.{least, least_with};
 ghost use Rattle.model.specs.Images.{header as header_of, place_list, first_node, node_offset, fault_of, image_nodes, whole_nodes, node_faults, image_fault};
 ghost use Rattle.image.specs.Headers.{announced, Listed};
+ghost use Rattle.image.specs.Opens.{ListWhole};
 
 use crate::bytes::{node_at, u32_at};
 use crate::frame::{Header, check_counts, check_end, check_nodes, check_place_list};
@@ -86,6 +87,7 @@ fn node_fault(heap: Global, bytes: &[u8], header: Header) -> Result<Option<Fault
 // caller wants to know of the same bytes, that each is below 256.
 pub(crate) fn image_fault(heap: Global, bytes: &[u8]) -> Result<Option<Fault>, AllocError>
     ensures is { IfOk result (λ f. f ≡ image_fault bytes.now) }
+    ensures wanting { IfErr result (λ _. ListWhole bytes.now) }
     ensures small { (i : ℕ) → slice_index bytes.now i < 256 }
 {
     match check_list(bytes) {
