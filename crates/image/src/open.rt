@@ -64,7 +64,7 @@ mod tests {
         match Image::open(heap, bytes) {
             Ok(image) => Ok(image.count()),
             Err(refused) => match refused.error {
-                ImageError::Fault(fault) => Err((fault.refusal.number(), fault.place)),
+                ImageError::Fault(fault) => Err((u32::from(fault.refusal), fault.place)),
                 ImageError::NoMemory => Err((0, 0)),
             },
         }

@@ -37,15 +37,15 @@ fn view_of(kind: u32, bytes: &[u8; 24], offset: usize) -> View<'_>
     requires { Known kind }
     ensures { shown result ≡ viewed kind bytes.now offset }
 {
-    match ValueKind::of(kind) {
-        Some(ValueKind::Bool) => View::Bool { bytes, offset },
-        Some(ValueKind::Long) => View::Long { bytes, offset },
-        Some(ValueKind::String) => View::String { bytes, offset },
-        Some(ValueKind::Uid) => View::Uid { bytes, offset },
-        Some(ValueKind::Set) => View::Set { bytes, offset },
-        Some(ValueKind::Record) => View::Record { bytes, offset },
-        Some(ValueKind::Extension) => View::Extension { bytes, offset },
-        None => View::Entity { bytes, offset },
+    match ValueKind::try_from(kind) {
+        Ok(ValueKind::Bool) => View::Bool { bytes, offset },
+        Ok(ValueKind::Long) => View::Long { bytes, offset },
+        Ok(ValueKind::String) => View::String { bytes, offset },
+        Ok(ValueKind::Uid) => View::Uid { bytes, offset },
+        Ok(ValueKind::Set) => View::Set { bytes, offset },
+        Ok(ValueKind::Record) => View::Record { bytes, offset },
+        Ok(ValueKind::Extension) => View::Extension { bytes, offset },
+        Err(_) => View::Entity { bytes, offset },
     }
 }
 

@@ -1,2 +1,3 @@
 mod FaultOrder
 pub mod Turns
+pub mod DerivedOrder

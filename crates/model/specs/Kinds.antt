@@ -1,5 +1,6 @@
 -- The numbers that stand for the kinds of values, of types and of extensions in a node.
-use Rattle.std.specs.Prelude.{◌≡◌, ℕ, ◌≤◌, ◌⊎◌, Some, None, Option, ◌≢◌}
+use Rattle.std.specs.Prelude.{◌≡◌, ℕ, ◌≤◌, ◌⊎◌, Result, MatchResult, ◌≢◌}
+use Rattle.model.specs.declared.kind.UnknownKind.{UnknownKind}
 use Rattle.model.specs.declared.kind.ValueKind.{ValueKind}
 use Rattle.model.specs.declared.kind.ValueKind.TheVariants as value
 use Rattle.model.specs.declared.kind.TypeKind.{TypeKind}
@@ -41,10 +42,9 @@ type_number type.ClosedRecord = 12
 type_number type.OpenRecord = 13
 type_number type.Never = 14
 
--- the kind that has the number n, or none where none has it
-abbrev pub Numbered : {K : Type 0} → (K → ℕ) → ℕ → Option K → Type 0
-Numbered number n (Some k) = number k ≡ n
-Numbered {K} number n None = (k : K) → number k ≢ n
+-- a number is decoded to the kind that has it, or handed back where no kind has it
+abbrev pub Decodes : {K : Type 0} → (K → ℕ) → ℕ → Result K UnknownKind → Type 0
+Decodes {K} number n r = MatchResult r (λ k. number k ≡ n) (λ e. (e.0 ≡ n) × ((k : K) → number k ≢ n))
 
 -- the kind of a node of a value, or that of an entity's head
 abbrev pub Known : ℕ → Type 0

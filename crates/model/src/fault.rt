@@ -3,80 +3,64 @@ ghost use Rattle.model.specs.Orders.{Total};
 ghost use Rattle.model.specs.Faults.{refusal_number, layer_number, whole_call, placed, of_entity, precedes as precedes_of, stands, keep_least};
 
 // What is refused. The numbers are those that a host sees; the Rust's names where it has one.
-#[derive(Clone, Copy, PartialEq, Eq)]
+#[derive(Clone, Copy, PartialEq, Eq, PartialOrd, Ord)]
 pub enum Refusal {
     // an image or a run breaks its layout
-    Malformed,
+    Malformed = 1,
     // a limit is passed, or a buffer is too short
-    Limit,
+    Limit = 2,
     // `close` finds a schema that is not well formed
-    IllFormedSchema,
+    IllFormedSchema = 3,
     // the request type's action is undeclared, or its context is no closed record
-    IllFormedTypeEnv,
+    IllFormedTypeEnv = 4,
     // `of_type` meets a type that it does not take
-    UnsupportedFeature,
+    UnsupportedFeature = 6,
     // `from_value` has no rule
-    UnableToSymbolizeValue,
+    UnableToSymbolizeValue = 9,
     // the check fails
-    NonConforming,
+    NonConforming = 10,
     // the pool, a term or a table has no room
-    Full,
+    Full = 11,
     // no such standard entity, or no such place in a store
-    NotStored,
+    NotStored = 12,
     // the type rules fail at a step of a walk
-    IllTypedWalk,
+    IllTypedWalk = 13,
 }
 
-impl Refusal {
-    pub fn number(self) -> u32
-        ensures { result ≡ refusal_number self }
-    {
-        match self {
-            Refusal::Malformed => 1,
-            Refusal::Limit => 2,
-            Refusal::IllFormedSchema => 3,
-            Refusal::IllFormedTypeEnv => 4,
-            Refusal::UnsupportedFeature => 6,
-            Refusal::UnableToSymbolizeValue => 9,
-            Refusal::NonConforming => 10,
-            Refusal::Full => 11,
-            Refusal::NotStored => 12,
-            Refusal::IllTypedWalk => 13,
-        }
+impl From<Refusal> for u32 {
+    ghost from_gives = { λ refusal n. n ≡ refusal_number refusal };
+
+    fn from(refusal: Refusal) -> u32 {
+        refusal as u32
     }
 }
 
 // Where a fault lies, and so what its place counts.
-#[derive(Clone, Copy, PartialEq, Eq)]
+#[derive(Clone, Copy, PartialEq, Eq, PartialOrd, Ord)]
 pub enum Layer {
     // byte offsets from 0
-    Image,
+    Image = 1,
     // rows from 1, types before actions
-    Schema,
+    Schema = 2,
     // nodes from 1
-    Request,
+    Request = 3,
     // nodes from 1, of the entity at a place of its store
-    Entity,
+    Entity = 4,
     // steps from 1
-    Walk,
+    Walk = 5,
 }
 
-impl Layer {
-    pub fn number(self) -> u32
-        ensures { result ≡ layer_number self }
-    {
-        match self {
-            Layer::Image => 1,
-            Layer::Schema => 2,
-            Layer::Request => 3,
-            Layer::Entity => 4,
-            Layer::Walk => 5,
-        }
+impl From<Layer> for u32 {
+    ghost from_gives = { λ layer n. n ≡ layer_number layer };
+
+    fn from(layer: Layer) -> u32 {
+        layer as u32
     }
 }
 
-// A refusal with its layer and place. A fault about a whole call has both places 0.
-#[derive(Clone, Copy, PartialEq, Eq)]
+// A refusal with its layer and place. A fault about a whole call has both places 0. The parts stand in the order in which
+// faults are compared.
+#[derive(Clone, Copy, PartialEq, Eq, PartialOrd, Ord)]
 pub struct Fault {
     pub refusal: Refusal,
     pub layer: Layer,
@@ -118,28 +102,19 @@ impl Fault {
     }
 
     // Faults order by number, layer, entity and place.
+    #[tactic(auto, using(crate::proofs::DerivedOrder::derived))]
     pub fn precedes(&self, other: &Fault) -> bool
         ensures { result ≡ precedes_of self.now other.now }
     {
-        let (number, others) = (self.refusal.number(), other.refusal.number());
-        if number != others {
-            return number < others;
-        }
-        let (layer, others) = (self.layer.number(), other.layer.number());
-        if layer != others {
-            return layer < others;
-        }
-        if self.entity != other.entity {
-            return self.entity < other.entity;
-        }
-        self.place < other.place
+        self < other
     }
 
     // Of two faults, the one that stands: the lesser.
+    #[tactic(auto, using(crate::proofs::DerivedOrder::lesser))]
     pub fn first(self, other: Fault) -> Fault
         ensures { result ≡ stands self other }
     {
-        if other.precedes(&self) { other } else { self }
+        self.min(other)
     }
 
     // The least fault so far, and one more.

@@ -1,49 +1,48 @@
-ghost use Rattle.model.specs.Kinds.{value_number, type_number, extension_code, Numbered};
+ghost use Rattle.model.specs.Kinds.{value_number, type_number, extension_code, Decodes};
 ghost use Rattle.std.specs.Prelude.{◌≡◌};
+
+// A number that stands for none of the kinds that are asked for.
+#[derive(Clone, Copy, PartialEq, Eq)]
+pub struct UnknownKind(pub u32);
 
 // What a node of a value is.
 #[derive(Clone, Copy, PartialEq, Eq)]
 pub enum ValueKind {
-    Bool,
-    Long,
-    String,
-    Uid,
-    Set,
-    Record,
-    Extension,
+    Bool = 1,
+    Long = 2,
+    String = 3,
+    Uid = 4,
+    Set = 5,
+    Record = 6,
+    Extension = 7,
 }
 
 // The kind of the first node of an entity's run.
 pub const ENTITY_KIND: u32 = 9;
 
-impl ValueKind {
-    pub fn number(self) -> u32
-        ensures { result ≡ value_number self }
-    {
-        match self {
-            ValueKind::Bool => 1,
-            ValueKind::Long => 2,
-            ValueKind::String => 3,
-            ValueKind::Uid => 4,
-            ValueKind::Set => 5,
-            ValueKind::Record => 6,
-            ValueKind::Extension => 7,
-        }
-    }
+impl From<ValueKind> for u32 {
+    ghost from_gives = { λ kind n. n ≡ value_number kind };
 
-    // The kind with this number, where there is one.
-    pub fn of(number: u32) -> Option<ValueKind>
-        ensures { Numbered value_number number result }
-    {
+    fn from(kind: ValueKind) -> u32 {
+        kind as u32
+    }
+}
+
+impl TryFrom<u32> for ValueKind {
+    type Error = UnknownKind;
+
+    ghost try_from_gives = { Decodes value_number };
+
+    fn try_from(number: u32) -> Result<ValueKind, UnknownKind> {
         match number {
-            1 => Some(ValueKind::Bool),
-            2 => Some(ValueKind::Long),
-            3 => Some(ValueKind::String),
-            4 => Some(ValueKind::Uid),
-            5 => Some(ValueKind::Set),
-            6 => Some(ValueKind::Record),
-            7 => Some(ValueKind::Extension),
-            _ => None,
+            1 => Ok(ValueKind::Bool),
+            2 => Ok(ValueKind::Long),
+            3 => Ok(ValueKind::String),
+            4 => Ok(ValueKind::Uid),
+            5 => Ok(ValueKind::Set),
+            6 => Ok(ValueKind::Record),
+            7 => Ok(ValueKind::Extension),
+            _ => Err(UnknownKind(number)),
         }
     }
 }
@@ -51,34 +50,32 @@ impl ValueKind {
 // What an extension value or type is.
 #[derive(Clone, Copy, PartialEq, Eq)]
 pub enum ExtensionKind {
-    Decimal,
-    Ipaddr,
-    Datetime,
-    Duration,
+    Decimal = 1,
+    Ipaddr = 2,
+    Datetime = 3,
+    Duration = 4,
 }
 
-impl ExtensionKind {
-    pub fn code(self) -> u32
-        ensures { result ≡ extension_code self }
-    {
-        match self {
-            ExtensionKind::Decimal => 1,
-            ExtensionKind::Ipaddr => 2,
-            ExtensionKind::Datetime => 3,
-            ExtensionKind::Duration => 4,
-        }
-    }
+impl From<ExtensionKind> for u32 {
+    ghost from_gives = { λ kind n. n ≡ extension_code kind };
 
-    // The extension with this code, where there is one.
-    pub fn of(code: u32) -> Option<ExtensionKind>
-        ensures { Numbered extension_code code result }
-    {
+    fn from(kind: ExtensionKind) -> u32 {
+        kind as u32
+    }
+}
+
+impl TryFrom<u32> for ExtensionKind {
+    type Error = UnknownKind;
+
+    ghost try_from_gives = { Decodes extension_code };
+
+    fn try_from(code: u32) -> Result<ExtensionKind, UnknownKind> {
         match code {
-            1 => Some(ExtensionKind::Decimal),
-            2 => Some(ExtensionKind::Ipaddr),
-            3 => Some(ExtensionKind::Datetime),
-            4 => Some(ExtensionKind::Duration),
-            _ => None,
+            1 => Ok(ExtensionKind::Decimal),
+            2 => Ok(ExtensionKind::Ipaddr),
+            3 => Ok(ExtensionKind::Datetime),
+            4 => Ok(ExtensionKind::Duration),
+            _ => Err(UnknownKind(code)),
         }
     }
 }
@@ -86,64 +83,52 @@ impl ExtensionKind {
 // What a node of a type is.
 #[derive(Clone, Copy, PartialEq, Eq)]
 pub enum TypeKind {
-    Bool,
-    True,
-    False,
-    Long,
-    String,
-    Entity,
-    AnyEntity,
-    Entities,
-    Extension,
-    Set,
-    AnySet,
-    ClosedRecord,
-    OpenRecord,
-    Never,
+    Bool = 1,
+    True = 2,
+    False = 3,
+    Long = 4,
+    String = 5,
+    Entity = 6,
+    AnyEntity = 7,
+    Entities = 8,
+    Extension = 9,
+    Set = 10,
+    AnySet = 11,
+    ClosedRecord = 12,
+    OpenRecord = 13,
+    Never = 14,
 }
 
-impl TypeKind {
-    pub fn number(self) -> u32
-        ensures { result ≡ type_number self }
-    {
-        match self {
-            TypeKind::Bool => 1,
-            TypeKind::True => 2,
-            TypeKind::False => 3,
-            TypeKind::Long => 4,
-            TypeKind::String => 5,
-            TypeKind::Entity => 6,
-            TypeKind::AnyEntity => 7,
-            TypeKind::Entities => 8,
-            TypeKind::Extension => 9,
-            TypeKind::Set => 10,
-            TypeKind::AnySet => 11,
-            TypeKind::ClosedRecord => 12,
-            TypeKind::OpenRecord => 13,
-            TypeKind::Never => 14,
-        }
-    }
+impl From<TypeKind> for u32 {
+    ghost from_gives = { λ kind n. n ≡ type_number kind };
 
-    // The kind with this number, where there is one.
-    pub fn of(number: u32) -> Option<TypeKind>
-        ensures { Numbered type_number number result }
-    {
+    fn from(kind: TypeKind) -> u32 {
+        kind as u32
+    }
+}
+
+impl TryFrom<u32> for TypeKind {
+    type Error = UnknownKind;
+
+    ghost try_from_gives = { Decodes type_number };
+
+    fn try_from(number: u32) -> Result<TypeKind, UnknownKind> {
         match number {
-            1 => Some(TypeKind::Bool),
-            2 => Some(TypeKind::True),
-            3 => Some(TypeKind::False),
-            4 => Some(TypeKind::Long),
-            5 => Some(TypeKind::String),
-            6 => Some(TypeKind::Entity),
-            7 => Some(TypeKind::AnyEntity),
-            8 => Some(TypeKind::Entities),
-            9 => Some(TypeKind::Extension),
-            10 => Some(TypeKind::Set),
-            11 => Some(TypeKind::AnySet),
-            12 => Some(TypeKind::ClosedRecord),
-            13 => Some(TypeKind::OpenRecord),
-            14 => Some(TypeKind::Never),
-            _ => None,
+            1 => Ok(TypeKind::Bool),
+            2 => Ok(TypeKind::True),
+            3 => Ok(TypeKind::False),
+            4 => Ok(TypeKind::Long),
+            5 => Ok(TypeKind::String),
+            6 => Ok(TypeKind::Entity),
+            7 => Ok(TypeKind::AnyEntity),
+            8 => Ok(TypeKind::Entities),
+            9 => Ok(TypeKind::Extension),
+            10 => Ok(TypeKind::Set),
+            11 => Ok(TypeKind::AnySet),
+            12 => Ok(TypeKind::ClosedRecord),
+            13 => Ok(TypeKind::OpenRecord),
+            14 => Ok(TypeKind::Never),
+            _ => Err(UnknownKind(number)),
         }
     }
 }

@@ -37,12 +37,6 @@ impl Node {
     pub fn with_field(self, field: Name) -> Node
         ensures { result ≡ under field self }
     {
-        Node {
-            kind: self.kind,
-            field,
-            a: self.a,
-            b: self.b,
-            number: self.number,
-        }
+        Node { field, ..self }
     }
 }

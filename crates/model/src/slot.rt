@@ -21,10 +21,7 @@ pub enum Slot {
 fn uid_follows(before: Option<Uid>, uid: Uid) -> bool
     ensures { result ≡ uid_follows before uid }
 {
-    match before {
-        None => true,
-        Some(u) => u.0 < uid.0 || u.0 == uid.0 && u.1 < uid.1,
-    }
+    before.is_none_or(|u| u < uid)
 }
 
 impl Slot {
@@ -34,8 +31,7 @@ impl Slot {
     {
         match self {
             Slot::Plain => node.field == 0,
-            Slot::Named(None) => true,
-            Slot::Named(Some(before)) => before < node.field,
+            Slot::Named(before) => before.is_none_or(|name| name < node.field),
             Slot::ARecord => node.field == 0 && is_record,
             Slot::AUid => node.field == 0 && is_uid,
             Slot::Ancestor(before) => node.field == 0

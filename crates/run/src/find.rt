@@ -53,7 +53,7 @@ fn field_of(run: &[Node], at: usize, name: Name) -> Option<usize>
         return None;
     }
     let record = run[at];
-    if record.kind != ValueKind::Record.number() {
+    if record.kind != u32::from(ValueKind::Record) {
         return None;
     }
     named(run, name, record.a, at + 1)

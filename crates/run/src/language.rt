@@ -37,13 +37,13 @@ impl Language {
     {
         match self {
             Language::Values => {
-                let is_record = node.kind == ValueKind::Record.number();
-                let is_uid = node.kind == ValueKind::Uid.number();
+                let is_record = node.kind == u32::from(ValueKind::Record);
+                let is_uid = node.kind == u32::from(ValueKind::Uid);
                 slot.fills(is_record, is_uid, node) && is_value(node)
             }
             Language::Types => {
-                let is_record = node.kind == TypeKind::ClosedRecord.number()
-                    || node.kind == TypeKind::OpenRecord.number();
+                let is_record = node.kind == u32::from(TypeKind::ClosedRecord)
+                    || node.kind == u32::from(TypeKind::OpenRecord);
                 slot.fills(is_record, false, node) && is_type(node) && has_number(slot, node)
             }
             Language::Heads => is_head(node),
@@ -77,8 +77,8 @@ impl Language {
         ensures { result ≡ (layout_of self).inside node }
     {
         let named = match self {
-            Language::Values => node.kind == ValueKind::Record.number(),
-            Language::Types => node.kind != TypeKind::Set.number(),
+            Language::Values => node.kind == u32::from(ValueKind::Record),
+            Language::Types => node.kind != u32::from(TypeKind::Set),
             Language::Heads => false,
         };
         if named {

@@ -12,11 +12,11 @@ pub(crate) fn is_type(node: Node) -> bool
     ensures { result ≡ type_node node }
 {
     node.b == 0
-        && match TypeKind::of(node.kind) {
-            Some(TypeKind::Entity | TypeKind::ClosedRecord | TypeKind::OpenRecord) => true,
-            Some(TypeKind::Extension) => node.a <= 4,
-            Some(_) => node.a == 0,
-            None => false,
+        && match TypeKind::try_from(node.kind) {
+            Ok(TypeKind::Entity | TypeKind::ClosedRecord | TypeKind::OpenRecord) => true,
+            Ok(TypeKind::Extension) => node.a <= 4,
+            Ok(_) => node.a == 0,
+            Err(_) => false,
         }
 }
 
@@ -34,7 +34,7 @@ pub(crate) fn has_number(slot: Slot, node: Node) -> bool
 pub(crate) fn keeps_limits(node: Node) -> bool
     ensures { result ≡ type_kept node }
 {
-    let Some(kind) = TypeKind::of(node.kind) else {
+    let Ok(kind) = TypeKind::try_from(node.kind) else {
         return true;
     };
     match kind {
@@ -48,7 +48,7 @@ pub(crate) fn keeps_limits(node: Node) -> bool
 pub(crate) fn arity(node: Node) -> u32
     ensures { result ≡ type_arity node }
 {
-    let Some(kind) = TypeKind::of(node.kind) else {
+    let Ok(kind) = TypeKind::try_from(node.kind) else {
         return 0;
     };
     match kind {

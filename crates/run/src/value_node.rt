@@ -10,10 +10,10 @@ use model::node::Node;
 fn is_extension(node: Node) -> bool
     ensures { result ≡ extension_node node }
 {
-    match ExtensionKind::of(node.a) {
-        Some(ExtensionKind::Ipaddr) => node.b <= 32 && is_below(node.number, 0x1_0000_0000),
-        Some(_) => node.b == 0,
-        None => false,
+    match ExtensionKind::try_from(node.a) {
+        Ok(ExtensionKind::Ipaddr) => node.b <= 32 && is_below(node.number, 0x1_0000_0000),
+        Ok(_) => node.b == 0,
+        Err(_) => false,
     }
 }
 
@@ -21,15 +21,15 @@ fn is_extension(node: Node) -> bool
 pub(crate) fn is_value(node: Node) -> bool
     ensures { result ≡ value_node node }
 {
-    match ValueKind::of(node.kind) {
-        Some(ValueKind::Bool) => node.a == 0 && node.b == 0 && is_below(node.number, 2),
-        Some(ValueKind::Long) => node.a == 0 && node.b == 0,
-        Some(ValueKind::String | ValueKind::Set | ValueKind::Record) => {
+    match ValueKind::try_from(node.kind) {
+        Ok(ValueKind::Bool) => node.a == 0 && node.b == 0 && is_below(node.number, 2),
+        Ok(ValueKind::Long) => node.a == 0 && node.b == 0,
+        Ok(ValueKind::String | ValueKind::Set | ValueKind::Record) => {
             node.b == 0 && is_below(node.number, 1)
         }
-        Some(ValueKind::Uid) => is_below(node.number, 1),
-        Some(ValueKind::Extension) => is_extension(node),
-        None => false,
+        Ok(ValueKind::Uid) => is_below(node.number, 1),
+        Ok(ValueKind::Extension) => is_extension(node),
+        Err(_) => false,
     }
 }
 
@@ -37,7 +37,7 @@ pub(crate) fn is_value(node: Node) -> bool
 pub(crate) fn keeps_limits(node: Node) -> bool
     ensures { result ≡ value_kept node }
 {
-    let Some(kind) = ValueKind::of(node.kind) else {
+    let Ok(kind) = ValueKind::try_from(node.kind) else {
         return true;
     };
     match kind {
@@ -53,7 +53,7 @@ pub(crate) fn keeps_limits(node: Node) -> bool
 pub(crate) fn arity(node: Node) -> u32
     ensures { result ≡ value_arity node }
 {
-    let Some(kind) = ValueKind::of(node.kind) else {
+    let Ok(kind) = ValueKind::try_from(node.kind) else {
         return 0;
     };
     match kind {

@@ -47,15 +47,15 @@ impl<'a> Listing<'a> {
     }
 
     fn extension(&self, heap: Global, j: usize, node: Node) -> anyhow::Result<String> {
-        let text = match ExtensionKind::of(node.a) {
-            Some(ExtensionKind::Decimal) => notation::decimal(heap, node.number)?,
-            Some(ExtensionKind::Ipaddr) => match u32::try_from(node.number) {
+        let text = match ExtensionKind::try_from(node.a) {
+            Ok(ExtensionKind::Decimal) => notation::decimal(heap, node.number)?,
+            Ok(ExtensionKind::Ipaddr) => match u32::try_from(node.number) {
                 Ok(address) => notation::ipaddr(heap, address, node.b)?,
                 Err(_) => return Err(broken(heap, j)),
             },
-            Some(ExtensionKind::Datetime) => notation::datetime(heap, node.number)?,
-            Some(ExtensionKind::Duration) => notation::duration(heap, node.number)?,
-            None => return Err(broken(heap, j)),
+            Ok(ExtensionKind::Datetime) => notation::datetime(heap, node.number)?,
+            Ok(ExtensionKind::Duration) => notation::duration(heap, node.number)?,
+            Err(_) => return Err(broken(heap, j)),
         };
         Ok(text)
     }
@@ -71,20 +71,20 @@ impl<'a> Listing<'a> {
     ) -> anyhow::Result<usize> {
         let node = self.node(heap, j)?;
         let next = j.saturating_add(1);
-        match ValueKind::of(node.kind) {
-            Some(ValueKind::Bool) => out.push_str(if node.number == 0 { "false" } else { "true" })?,
-            Some(ValueKind::Long) => out.push_str(node.number.to_string(heap)?.as_str())?,
-            Some(ValueKind::String) => notation::quote(out, self.name(heap, node.a)?)?,
-            Some(ValueKind::Uid) => self.uid(out, heap, node)?,
-            Some(ValueKind::Extension) => out.push_str(self.extension(heap, j, node)?.as_str())?,
-            Some(ValueKind::Set) if nesting > 1 => return self.set(
+        match ValueKind::try_from(node.kind) {
+            Ok(ValueKind::Bool) => out.push_str(if node.number == 0 { "false" } else { "true" })?,
+            Ok(ValueKind::Long) => out.push_str(node.number.to_string(heap)?.as_str())?,
+            Ok(ValueKind::String) => notation::quote(out, self.name(heap, node.a)?)?,
+            Ok(ValueKind::Uid) => self.uid(out, heap, node)?,
+            Ok(ValueKind::Extension) => out.push_str(self.extension(heap, j, node)?.as_str())?,
+            Ok(ValueKind::Set) if nesting > 1 => return self.set(
                 out,
                 heap,
                 next,
                 node.a,
                 nesting - 1,
             ),
-            Some(ValueKind::Record) if nesting > 1 => return self.fields(
+            Ok(ValueKind::Record) if nesting > 1 => return self.fields(
                 out,
                 heap,
                 next,

@@ -35,9 +35,9 @@ fn place(layer: Layer) -> &'static str {
 impl fmt::Display for InWords {
     fn fmt<W: fmt::Write>(&self, f: &mut fmt::Formatter<W>) -> fmt::Result {
         let fault = self.0;
-        let number = fault.refusal.number();
+        let number = u32::from(fault.refusal);
         let what = refusal(fault.refusal);
-        let layer = fault.layer.number();
+        let layer = u32::from(fault.layer);
         let at = place(fault.layer);
         let here = fault.place;
         write!(f, "refused: {number} ({what}), layer {layer} ({at} {here})")?;
