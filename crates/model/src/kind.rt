@@ -17,7 +17,7 @@ pub enum ValueKind {
     Extension = 7,
 }
 
-// The kind of the first node of an entity's run.
+// The kind of the first node of an entity's run. No value and no type has it, so it is a case of neither enum.
 pub const ENTITY_KIND: u32 = 9;
 
 impl From<ValueKind> for u32 {

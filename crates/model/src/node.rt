@@ -7,7 +7,8 @@ pub type Name = u32;
 // A type name and an id name.
 pub type Uid = (Name, Name);
 
-// One node of a run. A run lists a node and then its children in turn; what a kind does not use is 0.
+// One node of a run. A run lists a node and then its children in turn; what a kind does not use is 0. A host hands nodes in
+// as C records of 24 bytes, in which any number may stand as the kind: so it is a number here.
 #[repr(C)]
 #[derive(Clone, Copy, PartialEq, Eq)]
 pub struct Node {

@@ -25,7 +25,8 @@ fn uid_follows(before: Option<Uid>, uid: Uid) -> bool
 }
 
 impl Slot {
-    // Whether a node may fill the slot, where `is_record` and `is_uid` say what its kind is.
+    // Whether a node may fill the slot, where `is_record` and `is_uid` say what its kind is: values and types number their
+    // kinds apart, and an enum for these two answers would be taken apart at once.
     pub fn fills(self, is_record: bool, is_uid: bool, node: Node) -> bool
         ensures { result ≡ fills_of self is_record is_uid node }
     {
