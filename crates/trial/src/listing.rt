@@ -1,186 +1,165 @@
+// Entities in Cedar's notation.
+
+use crate::extension::Extension;
 use crate::names::Names;
-use crate::notation;
-use anyhow::anyhow;
-use model::kind::{ENTITY_KIND, ExtensionKind, ValueKind};
+use crate::notation::{EntityUid, Key, Quoted};
+use model::kind::{ENTITY_KIND, ValueKind};
 use model::limits;
 use model::node::{Name, Node};
-use std::alloc::Global;
+use std::alloc::{AllocError, Global};
+use std::slice::Iter;
+use thiserror::Error;
 
-// The run of an entity, to be written in Cedar's notation.
-#[derive(Clone, Copy)]
-pub struct Listing<'a> {
-    run: &'a [Node],
+// Why a run cannot be written.
+#[derive(Debug, Drop, Error)]
+pub(crate) enum ListingError {
+    #[error("the node {0} is none of an entity")]
+    Node(usize),
+    #[error("the name {0} is not among the names")]
+    Name(Name),
+    #[error(transparent)]
+    Memory(#[from(alloc)] AllocError),
+}
+
+// Writes a run, from its first node to its last.
+#[derive(Drop)]
+struct Writer<'a> {
     names: &'a Names,
+    run: &'a [Node],
+    // the nodes of the run that are not written yet
+    rest: Iter<'a, Node>,
+    out: String,
 }
 
-fn broken(heap: Global, j: usize) -> anyhow::Error {
-    match format!(in heap; "the node {j} is none of an entity") {
-        Ok(text) => anyhow!(text),
-        Err(e) => e.into(),
-    }
-}
-
-impl<'a> Listing<'a> {
-    pub(crate) fn new(run: &'a [Node], names: &'a Names) -> Listing<'a> {
-        Listing { run, names }
+impl<'a> Writer<'a> {
+    // The index of the next node in the run.
+    fn index(&self) -> usize {
+        self.run.len().saturating_sub(self.rest.len())
     }
 
-    fn node(&self, heap: Global, j: usize) -> anyhow::Result<Node> {
-        if j < self.run.len() {
-            return Ok(self.run[j]);
-        }
-        Err(broken(heap, j))
+    // The next node, which stays the next one.
+    fn peek(&self) -> Result<Node, ListingError> {
+        let next = self.rest.as_slice().first();
+        next.copied().ok_or(ListingError::Node(self.index()))
     }
 
-    fn name(&self, heap: Global, name: Name) -> anyhow::Result<&str> {
-        match self.names.text(name) {
-            Some(text) => Ok(text),
-            None => Err(anyhow!(format!(in heap; "the name {name} is not among the names")?)),
-        }
+    // Takes the next node.
+    fn next(&mut self) -> Result<Node, ListingError> {
+        let index = self.index();
+        self.rest.next().copied().ok_or(ListingError::Node(index))
     }
 
-    fn uid(&self, out: &mut String, heap: Global, node: Node) -> anyhow::Result<()> {
-        out.push_str(self.name(heap, node.a)?)?;
-        out.push_str("::")?;
-        notation::quote(out, self.name(heap, node.b)?)?;
+    // The text of a name.
+    fn name(&self, name: Name) -> Result<&'a str, ListingError> {
+        self.names.text(name).ok_or(ListingError::Name(name))
+    }
+
+    // The uid that a node has.
+    fn uid(&mut self, node: Node) -> Result<(), ListingError> {
+        let type_name = self.name(node.a)?;
+        let id = self.name(node.b)?;
+        write!(self.out, "{}", EntityUid { type_name, id })?;
         Ok(())
     }
 
-    fn extension(&self, heap: Global, j: usize, node: Node) -> anyhow::Result<String> {
-        let text = match ExtensionKind::try_from(node.a) {
-            Ok(ExtensionKind::Decimal) => notation::decimal(heap, node.number)?,
-            Ok(ExtensionKind::Ipaddr) => match u32::try_from(node.number) {
-                Ok(address) => notation::ipaddr(heap, address, node.b)?,
-                Err(_) => return Err(broken(heap, j)),
-            },
-            Ok(ExtensionKind::Datetime) => notation::datetime(heap, node.number)?,
-            Ok(ExtensionKind::Duration) => notation::duration(heap, node.number)?,
-            Err(_) => return Err(broken(heap, j)),
-        };
-        Ok(text)
-    }
-
-    // The value at the node `j`, with at most so much nesting; the node after it.
-    #[cycle(fields_set_value)]
-    fn value(
-        &self,
-        out: &mut String,
-        heap: Global,
-        j: usize,
-        nesting: usize,
-    ) -> anyhow::Result<usize> {
-        let node = self.node(heap, j)?;
-        let next = j.saturating_add(1);
+    // A value, with at most so much nesting.
+    #[cycle(value)]
+    fn value(&mut self, nesting: usize) -> Result<(), ListingError> {
+        let index = self.index();
+        let node = self.next()?;
         match ValueKind::try_from(node.kind) {
-            Ok(ValueKind::Bool) => out.push_str(if node.number == 0 { "false" } else { "true" })?,
-            Ok(ValueKind::Long) => out.push_str(node.number.to_string(heap)?.as_str())?,
-            Ok(ValueKind::String) => notation::quote(out, self.name(heap, node.a)?)?,
-            Ok(ValueKind::Uid) => self.uid(out, heap, node)?,
-            Ok(ValueKind::Extension) => out.push_str(self.extension(heap, j, node)?.as_str())?,
-            Ok(ValueKind::Set) if nesting > 1 => return self.set(
-                out,
-                heap,
-                next,
-                node.a,
-                nesting - 1,
-            ),
-            Ok(ValueKind::Record) if nesting > 1 => return self.fields(
-                out,
-                heap,
-                next,
-                node.a,
-                nesting - 1,
-            ),
-            _ => return Err(broken(heap, j)),
+            Ok(ValueKind::Bool) => write!(self.out, "{}", node.number != 0)?,
+            Ok(ValueKind::Long) => write!(self.out, "{}", node.number)?,
+            Ok(ValueKind::String) => {
+                let text = self.name(node.a)?;
+                write!(self.out, "{}", Quoted(text))?;
+            }
+            Ok(ValueKind::Uid) => self.uid(node)?,
+            Ok(ValueKind::Extension) => {
+                let extension = Extension::of(node).ok_or(ListingError::Node(index))?;
+                write!(self.out, "{extension}")?;
+            }
+            Ok(ValueKind::Set) if nesting > 1 => self.set(node.a, nesting - 1)?,
+            Ok(ValueKind::Record) if nesting > 1 => self.fields(node.a, nesting - 1)?,
+            _ => return Err(ListingError::Node(index)),
         }
-        Ok(next)
+        Ok(())
     }
 
-    // The elements of a set from the node `j` on; the node after them.
-    #[cycle(fields_set_value)]
-    fn set(
-        &self,
-        out: &mut String,
-        heap: Global,
-        j: usize,
-        count: u32,
-        nesting: usize,
-    ) -> anyhow::Result<usize> {
-        out.push('[')?;
-        let mut next = j;
+    // The elements of a set. How many come is read from a node; `i` only tells where a separator stands, here and below: an
+    // iterator of separators would need a longer type than the loop.
+    #[cycle(value)]
+    fn set(&mut self, count: u32, nesting: usize) -> Result<(), ListingError> {
+        self.out.push('[')?;
         for i in 0..count {
             if i > 0 {
-                out.push_str(", ")?;
+                self.out.push_str(", ")?;
             }
-            next = self.value(out, heap, next, nesting)?;
+            self.value(nesting)?;
         }
-        out.push(']')?;
-        Ok(next)
+        self.out.push(']')?;
+        Ok(())
     }
 
-    // The fields of a record, or the tags of an entity, from the node `j` on; the node after them.
-    #[cycle(fields_set_value)]
-    fn fields(
-        &self,
-        out: &mut String,
-        heap: Global,
-        j: usize,
-        count: u32,
-        nesting: usize,
-    ) -> anyhow::Result<usize> {
-        if count == 0 {
-            out.push_str("{}")?;
-            return Ok(j);
-        }
-        let mut next = j;
+    // The fields of a record, or the tags of an entity.
+    #[cycle(value)]
+    fn fields(&mut self, count: u32, nesting: usize) -> Result<(), ListingError> {
+        self.out.push('{')?;
         for i in 0..count {
-            out.push_str(if i == 0 { "{ " } else { ", " })?;
-            notation::key(out, self.name(heap, self.node(heap, next)?.field)?)?;
-            out.push_str(": ")?;
-            next = self.value(out, heap, next, nesting)?;
+            self.out.push_str(if i > 0 { ", " } else { " " })?;
+            let key = self.name(self.peek()?.field)?;
+            write!(self.out, "{}: ", Key(key))?;
+            self.value(nesting)?;
         }
-        out.push_str(" }")?;
-        Ok(next)
+        self.out.push_str(if count > 0 { " }" } else { "}" })?;
+        Ok(())
     }
 
-    // The ancestors of an entity from the node `j` on; the node after them.
-    fn ancestors(
-        &self,
-        out: &mut String,
-        heap: Global,
-        j: usize,
-        count: u32,
-    ) -> anyhow::Result<usize> {
-        let mut next = j;
+    // The ancestors of an entity.
+    fn ancestors(&mut self, count: u32) -> Result<(), ListingError> {
         for i in 0..count {
-            out.push_str(if i == 0 { " in [" } else { ", " })?;
-            self.uid(out, heap, self.node(heap, next)?)?;
-            next = next.saturating_add(1);
+            self.out.push_str(if i > 0 { ", " } else { " in [" })?;
+            let node = self.next()?;
+            self.uid(node)?;
         }
         if count > 0 {
-            out.push(']')?;
+            self.out.push(']')?;
         }
-        Ok(next)
+        Ok(())
     }
 
-    // The entity, on one line.
-    pub(crate) fn entity(&self, heap: Global) -> anyhow::Result<String> {
-        let head = self.node(heap, 0)?;
-        let Ok(tags) = u32::try_from(head.number) else {
-            return Err(broken(heap, 0));
-        };
+    // The whole entity.
+    fn entity(&mut self) -> Result<(), ListingError> {
+        let index = self.index();
+        let head = self.next()?;
         if head.kind != ENTITY_KIND {
-            return Err(broken(heap, 0));
+            return Err(ListingError::Node(index));
         }
-        let mut out = String::new(heap);
-        self.uid(&mut out, heap, head)?;
-        out.push(' ')?;
-        let next = self.value(&mut out, heap, 1, limits::NESTING)?;
-        let next = self.ancestors(&mut out, heap, next, head.field)?;
+        let tags = u32::try_from(head.number).map_err(|_| ListingError::Node(index))?;
+        self.uid(head)?;
+        self.out.push(' ')?;
+        self.value(limits::NESTING)?;
+        self.ancestors(head.field)?;
         if tags > 0 {
-            out.push_str(" tags ")?;
-            self.fields(&mut out, heap, next, tags, limits::NESTING)?;
+            self.out.push_str(" tags ")?;
+            self.fields(tags, limits::NESTING)?;
         }
-        Ok(out)
+        Ok(())
     }
+}
+
+// The entity of a run, on one line.
+pub(crate) fn entity_line(
+    alloc: Global,
+    run: &[Node],
+    names: &Names,
+) -> Result<String, ListingError> {
+    let mut writer = Writer {
+        names,
+        run,
+        rest: run.iter(),
+        out: String::new(alloc),
+    };
+    writer.entity()?;
+    Ok(writer.out)
 }

@@ -2,24 +2,27 @@
 //! the same image is refused with its last byte cut off.
 #![tactic(auto)]
 
+mod datetime;
+mod extension;
 mod listing;
 mod names;
 mod notation;
 mod words;
 
-use anyhow::anyhow;
+use anyhow::{Context, anyhow};
 use image::frame::{Header, check_frame};
-use listing::Listing;
+use model::fault::Fault;
 use model::limits;
 use model::node::Node;
 use names::Names;
-use std::alloc::Global;
+use std::alloc::{AllocError, Global};
 use std::process::ExitCode;
-use std::{env, fs, io};
+use std::{env, fmt, fs, io};
 use store::store::Store;
 use store::table::NodeTable;
 use words::InWords;
 
+// Prints what the program wants.
 fn help(rt: &HostRuntime) -> io::Result<()> {
     println!(rt; "usage: trial IMAGE NAMES")?;
     println!(rt;
@@ -27,111 +30,77 @@ fn help(rt: &HostRuntime) -> io::Result<()> {
     )
 }
 
-// What is at fault, for whoever reads the message.
-fn at_fault(rt: &HostRuntime, what: &str, why: impl std::fmt::Display + Drop) -> anyhow::Error {
-    match format!(in rt.alloc(); "{what}: {why}") {
-        Ok(text) => anyhow!(text),
-        Err(e) => e.into(),
-    }
+// What is at fault, and why, for whoever reads the message. `context` would print one of the two alone.
+fn at_fault(what: &str, why: impl fmt::Display + Drop) -> anyhow::Error {
+    anyhow!("{what}: {why}")
 }
 
 // The nodes of an image and the first node of each run, as its header announces them.
-fn nodes_of(heap: Global, bytes: &[u8], header: Header) -> anyhow::Result<(Vec<Node>, Vec<usize>)> {
-    let mut nodes = Vec::new(heap);
-    for j in 0..header.nodes {
-        if let Some(node) = header.node(bytes, j) {
-            nodes.push(node)?;
-        }
-    }
-    let mut firsts = Vec::new(heap);
-    for k in 0..header.entities {
-        if let Some(first) = header.first_node(bytes, k) {
-            firsts.push(first as usize)?;
-        }
-    }
+fn nodes_of(
+    alloc: Global,
+    bytes: &[u8],
+    header: Header,
+) -> Result<(Vec<Node>, Vec<usize>), AllocError> {
+    let nodes = (0..header.nodes)
+        .filter_map(|j| header.node(bytes, j))
+        .collect(alloc)?;
+    let firsts = (0..header.entities)
+        .filter_map(|k| header.first_node(bytes, k))
+        .map(|first| first as usize)
+        .collect(alloc)?;
     Ok((nodes, firsts))
 }
 
-// The table of the nodes of an image.
-fn table_of(rt: &HostRuntime, path: &str, bytes: &[u8]) -> anyhow::Result<NodeTable> {
-    let header = match check_frame(bytes) {
-        Ok(header) => header,
-        Err(fault) => return Err(at_fault(rt, path, InWords(fault))),
-    };
-    let (nodes, firsts) = nodes_of(rt.alloc(), bytes, header)?;
-    let count = nodes.len();
-    match NodeTable::open(nodes, firsts) {
-        Ok(table) => {
-            let entities = table.count();
-            println!(rt; "{entities} entities, {count} nodes")?;
-            Ok(table)
-        }
-        Err(refused) => Err(at_fault(rt, path, InWords(refused.fault))),
-    }
-}
-
-// The entity at a place of any store, on one line.
-fn line<S: Store>(
-    rt: &HostRuntime,
+// The run of the entity at a place of any store, in the buffer.
+fn load<'b, S: Store>(
     store: &S,
-    names: &Names,
-    buffer: &mut [Node],
     place: usize,
-) -> anyhow::Result<String> {
-    let length = match store.load(place, buffer) {
-        Ok(length) => length,
-        Err(fault) => return Err(at_fault(rt, "the store", InWords(fault))),
-    };
-    if length > buffer.len() {
-        return Err(anyhow!("a run beyond its buffer"));
-    }
-    write_line(rt.alloc(), &buffer[0..length], names)
+    buffer: &'b mut [Node],
+) -> anyhow::Result<&'b [Node]> {
+    let length = store
+        .load(place, buffer)
+        .map_err(|fault| at_fault("the store", InWords(fault)))?;
+    buffer.get(..length).context("a run beyond its buffer")
 }
 
-fn write_line<'a>(heap: Global, run: &'a [Node], names: &'a Names) -> anyhow::Result<String> {
-    Listing::new(run, names).entity(heap)
-}
-
-// All entities of a store.
+// Prints all entities of a store, one to a line.
 fn list<S: Store>(rt: &HostRuntime, store: &S, names: &Names) -> anyhow::Result<()> {
     let mut buffer = vec![in rt.alloc(); Node::new(0, 0, 0, 0); limits::RUN_NODES]?;
     for place in 0..store.count() {
-        rt.println(line(rt, store, names, buffer.as_mut_slice(), place)?)?;
+        let run = load(store, place, buffer.as_mut_slice())?;
+        rt.println(listing::entity_line(rt.alloc(), run, names)?)?;
     }
     Ok(())
 }
 
-// How the image is refused with its last byte cut off.
+// Prints how the image is refused with its last byte cut off.
 fn cut(rt: &HostRuntime, bytes: &[u8]) -> io::Result<()> {
-    if bytes.is_empty() {
+    let Some((_, kept)) = bytes.split_last() else {
         return Ok(());
-    }
-    let kept = bytes.len() - 1;
-    match check_frame(&bytes[0..kept]) {
-        Ok(_) => println!(rt; "the first {kept} bytes: accepted"),
-        Err(fault) => {
-            let fault = InWords(fault);
-            println!(rt; "the first {kept} bytes: {fault}")
-        }
+    };
+    let count = kept.len();
+    match check_frame(kept) {
+        Ok(_) => println!(rt; "the first {count} bytes: accepted"),
+        Err(fault) => println!(rt; "the first {count} bytes: {}", InWords(fault)),
     }
 }
 
+// Lists the store of the image with these names, and cuts the image.
 fn trial(rt: &HostRuntime, image: &str, names: &str) -> anyhow::Result<()> {
-    let bytes = match fs::read(rt, image) {
-        Ok(bytes) => bytes,
-        Err(e) => return Err(at_fault(rt, image, e)),
-    };
-    let text = match fs::read_to_string(rt, names) {
-        Ok(text) => text,
-        Err(e) => return Err(at_fault(rt, names, e)),
-    };
+    let refused = |fault: Fault| at_fault(image, InWords(fault));
+    let bytes = fs::read(rt, image).map_err(|e| at_fault(image, e))?;
+    let text = fs::read_to_string(rt, names).map_err(|e| at_fault(names, e))?;
     let names = Names::parse(rt.alloc(), text.as_str())?;
-    let table = table_of(rt, image, bytes.as_slice())?;
+    let header = check_frame(bytes.as_slice()).map_err(refused)?;
+    let (nodes, firsts) = nodes_of(rt.alloc(), bytes.as_slice(), header)?;
+    let table = NodeTable::open(nodes, firsts).map_err(|table| refused(table.fault))?;
+    println!(rt; "{} entities, {} nodes", table.count(), header.nodes)?;
     list(rt, &table, &names)?;
     cut(rt, bytes.as_slice())?;
     Ok(())
 }
 
+// Lists what the arguments name.
 fn run(rt: &HostRuntime) -> anyhow::Result<()> {
     let mut args = env::args(rt)?.skip(1);
     match (args.next(), args.next()) {
@@ -143,6 +112,7 @@ fn run(rt: &HostRuntime) -> anyhow::Result<()> {
     }
 }
 
+// A failure is told on the error output, and is the exit status.
 fn main(rt: HostRuntime) -> ExitCode {
     match run(&rt) {
         Ok(()) => ExitCode::SUCCESS,

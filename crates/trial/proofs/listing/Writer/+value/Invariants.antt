@@ -1,6 +1,6 @@
 -- A set or a record takes one level of nesting from its elements or fields.
 use Rattle.std.proofs.Common.{◌+◌, ◌*◌}
-use Rattle.trial.proofs.listing.Listing.+fields_set_value.Given as goal
+use Rattle.trial.proofs.listing.Writer.+value.Given as goal
 
 abbrev pub decreases-value : goal.decreases-value
 decreases-value l = 2 * l.nesting + 1
