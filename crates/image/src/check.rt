@@ -12,7 +12,7 @@ use crate::frame::{Header, check_counts, check_end, check_nodes, check_place_lis
 use model::fault::Fault;
 use model::node::Node;
 use std::alloc::{AllocError, Global};
-use store::faults::keep_run_faults;
+use store::runs::Runs;
 
 // The header of an image, where it and the place list are as they have to be.
 fn check_list(bytes: &[u8]) -> Result<Header, Fault>
@@ -80,7 +80,11 @@ fn node_fault(heap: Global, bytes: &[u8], header: Header) -> Result<Option<Fault
     let least = keep_checked(None, check_nodes(bytes, header));
     let least = keep_checked(least, check_end(bytes, header));
     let least = keep_checked(least, check_counts(header));
-    Ok(keep_run_faults(&header, least, nodes.as_slice(), firsts.as_slice()))
+    let runs = Runs {
+        nodes: nodes.as_slice(),
+        firsts: firsts.as_slice(),
+    };
+    Ok(runs.keep_faults(&header, least))
 }
 
 // What opening an image refuses: a broken header or place list stands alone, else the least fault. Beside it stands what a

@@ -12,8 +12,8 @@ use Rattle.model.specs.Fitting.{Storable}
 use Rattle.laws.proofs.Written.{written}
 use Rattle.laws.specs.ImageLaws.{ImagesRead}
 use Rattle.laws.proofs.ChecksPass.{require_holds, then_parts, then_passes}
-use Rattle.laws.proofs.WholeRuns.{Whole, no_least, none_of_two, runs_whole, whole_runs}
-use Rattle.laws.proofs.TableRuns.{covers, first_nodes_length, first_nodes_below, stands, read_back, whole_storable}
+use Rattle.laws.proofs.WholeRuns.{Whole, Filled, no_least, none_of_two, runs_whole, whole_runs}
+use Rattle.laws.proofs.TableRuns.{covers, first_nodes_length, first_nodes_below, stands, read_back, filled_storable}
 use Rattle.laws.proofs.ReadBytes.{length_entries, length_nodes, no_nodes, none_broken, nodes_fit, read_written}
 use Rattle.laws.proofs.WrittenBytes.{bytes_below, Writable, header_back, entries_back, nodes_back, nodes_there_back, ends_back, counts_back, place_list_back}
 
@@ -24,6 +24,11 @@ pub record Imaged (bs : List ℕ) : Type 0 where
   pub noded : nodes_there bs (entity_count bs) (node_count bs) ≡ good
   pub ended : ends bs (entity_count bs) (node_count bs) ≡ good
   pub whole : Whole (image_nodes bs) (place_entries bs)
+  pub bare : length (place_entries bs) ≡ 0 → length (image_nodes bs) ≡ 0
+
+-- so none lies in front of the first run
+pub filled : {bs : List ℕ} → Imaged bs → Filled (image_nodes bs) (place_entries bs)
+filled i = record { whole = i.whole; bare = i.bare }
 
 -- a check that found nothing passed, and one that passed found nothing
 fault_none : (o : Checked) → fault_of o ≡ [] → o ≡ good
@@ -58,8 +63,8 @@ image_whole bs h =
       listed = b.1;
       noded = there;
       ended = fault_none (ends bs e v) d.0;
-      whole = runs_whole (at_offset bs) (image_nodes bs) (place_entries bs) (none_broken bs there b.1) (omega arith) (omega arith)
-          (λ z. vs ∙ no_nodes bs there (sym es ∙ z)) f.1;
+      whole = runs_whole (at_offset bs) (image_nodes bs) (place_entries bs) (none_broken bs there b.1) (omega arith) (omega arith) f.1;
+      bare = λ z. vs ∙ no_nodes bs there (sym es ∙ z);
     }
 
 -- the nodes of some runs fit, and each run's do
@@ -95,7 +100,7 @@ module _ (es : List Entity) (s : Storable es) (fits : RunsFitParts es) where
   abbrev firsts : List ℕ
   firsts = first_nodes 0 es
 
-  whole_list : Whole nodes firsts
+  whole_list : Filled nodes firsts
   whole_list = stands es s
 
   writable : Writable nodes firsts
@@ -115,7 +120,7 @@ module _ (es : List Entity) (s : Storable es) (fits : RunsFitParts es) where
     entries_are = entries_back nodes firsts bs is writable
 
     whole_image : Whole (image_nodes bs) (place_entries bs)
-    whole_image = subst (λ v. Whole v (place_entries bs)) (sym nodes_are) (subst (λ v. Whole nodes v) (sym entries_are) whole_list)
+    whole_image = subst (λ v. Whole v (place_entries bs)) (sym nodes_are) (subst (λ v. Whole nodes v) (sym entries_are) whole_list.whole)
 
     no_faults : node_faults bs ≡ []
     no_faults =
@@ -130,7 +135,7 @@ module _ (es : List Entity) (s : Storable es) (fits : RunsFitParts es) where
     accepted =
         let e = entity_count bs in
         let v = node_count bs in
-        ap (λ o. unless_broken o (least (node_faults bs))) (then_passes (header bs) (place_list bs e v) (header_back nodes firsts bs is writable) (place_list_back nodes firsts bs is writable whole_list.entries))
+        ap (λ o. unless_broken o (least (node_faults bs))) (then_passes (header bs) (place_list bs e v) (header_back nodes firsts bs is writable) (place_list_back nodes firsts bs is writable whole_list.whole.entries))
         ∙ ap least no_faults
 
     meant : image_entities bs ≡ es
@@ -139,7 +144,7 @@ module _ (es : List Entity) (s : Storable es) (fits : RunsFitParts es) where
 -- bytes of which no fault is found are the image of their entities
 pub image_back : (bs : List ℕ) → ((i : ℕ) → get_or bs i 0 < 256) → Imaged bs → image_of (image_entities bs) ≡ bs
 image_back bs small i =
-    let c = covers (image_nodes bs) (place_entries bs) i.whole in
+    let c = covers (image_nodes bs) (place_entries bs) (filled i) in
     image_is (image_entities bs) ∙ (ap (λ v. written v (first_nodes 0 (image_entities bs))) c.0 ∙ (ap (written (image_nodes bs)) c.1 ∙ read_written bs small i.headed i.listed i.noded i.ended))
 
 pub images_read : ImagesRead
@@ -148,8 +153,8 @@ images_read = record {
   every = λ es s f. (accepted es s f (image_of es) (image_is es), meant es s f (image_of es) (image_is es));
   only = λ bs small h.
       let i = image_whole bs h in
-      let c = covers (image_nodes bs) (place_entries bs) i.whole in (
-        whole_storable (image_nodes bs) (place_entries bs) i.whole,
+      let c = covers (image_nodes bs) (place_entries bs) (filled i) in (
+        filled_storable (image_nodes bs) (place_entries bs) (filled i),
         fit_runs (image_entities bs) (subst AllFitParts (sym c.0) (nodes_fit bs small)),
         image_back bs small i,
       );

@@ -16,7 +16,7 @@ use Rattle.model.specs.Values.{uid_node, trees_of}
 use Rattle.model.specs.Entities.{Entity, FormedEntity, attributes_tree, entity_run}
 use Rattle.model.specs.Stores.{AllFormed, entities_of}
 use Rattle.model.specs.Images.{entity_runs}
-use Rattle.laws.proofs.WholeRuns.{Whole, entities_lawful}
+use Rattle.laws.proofs.WholeRuns.{Filled, entities_lawful}
 use Rattle.laws.proofs.TableRuns.{covers}
 
 -- a kind that is known and none of a value's is that of a head
@@ -70,6 +70,6 @@ entities_known [] h = tt
 entities_known (e ∷ es) h = All-append KnownNode (entity_run e) (entity_runs es) (entity_known e h.0) (entities_known es h.1)
 
 -- every node of whole nodes has a known kind
-pub kinds : (nodes : List Node) (fs : List ℕ) → Whole nodes fs → (j : ℕ) (z : Node) → j < length nodes → Known (get_or nodes j z).kind
-kinds nodes fs w j z l =
-    All-get_or KnownNode nodes j z l (subst (All KnownNode) (covers nodes fs w).0 (entities_known (entities_of nodes fs) (entities_lawful nodes fs w).formed))
+pub kinds : (nodes : List Node) (fs : List ℕ) → Filled nodes fs → (j : ℕ) (z : Node) → j < length nodes → Known (get_or nodes j z).kind
+kinds nodes fs f j z l =
+    All-get_or KnownNode nodes j z l (subst (All KnownNode) (covers nodes fs f).0 (entities_known (entities_of nodes fs) (entities_lawful nodes fs f.whole).formed))

@@ -11,10 +11,13 @@ use Rattle.model.specs.Images.{entity_runs, first_nodes}
 use Rattle.model.specs.Fitting.{Storable}
 use Rattle.laws.specs.TableLaws.{TablesRead}
 use Rattle.laws.proofs.EntityRuns.{entities_read}
-use Rattle.laws.proofs.WholeRuns.{sound, sound_entries, Whole, listed_more, entities_lawful, table_whole, whole_table}
+use Rattle.laws.proofs.WholeRuns.{sound, sound_entries, Whole, Filled, listed_more, entities_lawful, table_filled, filled_table}
 
 -- The runs of whole nodes adjoin, and cover all of them.
-module _ (nodes : List Node) (fs : List ℕ) (w : Whole nodes fs) where
+module _ (nodes : List Node) (fs : List ℕ) (f : Filled nodes fs) where
+  w : Whole nodes fs
+  w = f.whole
+
   -- where the run i begins, and where the last ends
   abbrev bound : ℕ → ℕ
   bound i = cond (ltb i (length fs)) (first_at fs i) (length nodes)
@@ -87,7 +90,7 @@ module _ (nodes : List Node) (fs : List ℕ) (w : Whole nodes fs) where
   begins_first =
       ⊎_elim
       (λ (q : 0 < length fs). begins 0 q ∙ (sound (length nodes) fs w.entries).starts q)
-      (λ (q : length fs ≤ 0). ends 0 q ∙ w.bare (omega arith))
+      (λ (q : length fs ≤ 0). ends 0 q ∙ f.bare (omega arith))
       (cases_lt 0 (length fs))
 
   -- the runs are all nodes, and begin at the entries
@@ -292,17 +295,16 @@ none_bare [] h = refl
 none_bare (e ∷ es) h = absurd (omega arith)
 
 -- the runs of a list that fits are whole
-pub stands : (es : List Entity) → Storable es → Whole (entity_runs es) (first_nodes 0 es)
+pub stands : (es : List Entity) → Storable es → Filled (entity_runs es) (first_nodes 0 es)
 stands es s =
     let n = first_nodes_length 0 es in
     let formed = s.lawful.formed in
-    record {
+    let whole : Whole (entity_runs es) (first_nodes 0 es) = record {
       entries = sound_entries (length (entity_runs es)) (first_nodes 0 es) (record {
         starts = λ l. starts_there es;
         below = λ k l. first_nodes_below es s k (omega arith);
         rises = λ k l. rises_there es k (omega arith);
       });
-      bare = λ h. none_bare es (omega arith);
       few = let f = s.lawful.few in omega arith;
       many = s.many;
       reads = λ k l. let c = cut es k (omega arith) in (c.at, reads_cut es c formed);
@@ -310,7 +312,8 @@ stands es s =
           let t = two es k (omega arith) in
           (λ i. uid_below (head_uid (run_at_cut es (cut_first t) i)) (head_uid (run_at_cut es (cut_second t) i)))
           ∙ ascends_there t.front t.first t.second t.back (subst UidsAscend t.is s.lawful.ascending);
-    }
+    } in
+    record { whole = whole; bare = λ h. none_bare es (omega arith) }
 
 -- what is read at the places of a list, in turn, is that list
 listed_back : (read : ℕ → Result Entity Refused) (es front back : List Entity) → ((k : ℕ) (c : Cut es k) → read k ≡ Ok c.at) → es ≡ front ++ back → collected (λ k. entity_if_read (read k)) (length back) (length front) ≡ back
@@ -326,15 +329,15 @@ read_back es s =
     ∙ listed_back (λ k. read_entity (run_at (entity_runs es) (first_nodes 0 es) k)) es [] es (λ k c. reads_cut es c s.lawful.formed) refl
 
 -- the entities of whole nodes fit
-pub whole_storable : (nodes : List Node) (fs : List ℕ) → Whole nodes fs → Storable (entities_of nodes fs)
-whole_storable nodes fs w = record {
-  lawful = entities_lawful nodes fs w;
-  many = subst (λ ns. length ns ≤ 65536) (sym (covers nodes fs w).0) w.many;
+pub filled_storable : (nodes : List Node) (fs : List ℕ) → Filled nodes fs → Storable (entities_of nodes fs)
+filled_storable nodes fs f = record {
+  lawful = entities_lawful nodes fs f.whole;
+  many = subst (λ ns. length ns ≤ 65536) (sym (covers nodes fs f).0) f.whole.many;
 }
 
 -- the theorem on tables
 pub tables_read : TablesRead
 tables_read = record {
-  every = λ es s. (whole_table (entity_runs es) (first_nodes 0 es) (stands es s), read_back es s);
-  only = λ nodes fs h. let w = table_whole nodes fs h in let c = covers nodes fs w in (whole_storable nodes fs w, c.0, c.1);
+  every = λ es s. (filled_table (entity_runs es) (first_nodes 0 es) (stands es s), read_back es s);
+  only = λ nodes fs h. let f = table_filled nodes fs h in let c = covers nodes fs f in (filled_storable nodes fs f, c.0, c.1);
 }

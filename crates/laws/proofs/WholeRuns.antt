@@ -153,23 +153,26 @@ no_uid_fault false f h = let z : ◌≡◌ {A = ℕ} 0 1 = cc in absurd (omega a
 pub run_names : (run : List Node) (e : Entity) → read_entity run ≡ Ok e → head_uid run ≡ e.uid
 run_names run e h = let p = entities_read.only run e h in ap head_uid (sym p.1)
 
--- nodes of which no fault is found
+-- nodes whose entries, counts and runs have no fault
 pub record Whole (nodes : List Node) (fs : List ℕ) : Type 0 where
   pub entries : broken_entry (length nodes) fs ≡ None
-  pub bare : length fs ≡ 0 → length nodes ≡ 0
   pub few : length fs ≤ 1024
   pub many : length nodes ≤ 65536
   pub reads : (k : ℕ) → k < length fs → (e : Entity) × (read_entity (run_at nodes fs k) ≡ Ok e)
   pub ascends : (k : ℕ) → k + 1 < length fs → uid_below (head_uid (run_at nodes fs k)) (head_uid (run_at nodes fs (k + 1))) ≡ true
 
+-- and of which none lies in front of the first run
+pub record Filled (nodes : List Node) (fs : List ℕ) : Type 0 where
+  pub whole : Whole nodes fs
+  pub bare : length fs ≡ 0 → length nodes ≡ 0
+
 -- where the entries are sound and the counts within the limits, the faults of the runs decide, however they are told
-pub runs_whole : (at : ℕ → ℕ → Refusal → Fault) (nodes : List Node) (fs : List ℕ) → broken_entry (length nodes) fs ≡ None → length fs ≤ 1024 → length nodes ≤ 65536 → (length fs ≡ 0 → length nodes ≡ 0) → run_faults at nodes fs ≡ [] → Whole nodes fs
-runs_whole at nodes fs entries few many bare h =
+pub runs_whole : (at : ℕ → ℕ → Refusal → Fault) (nodes : List Node) (fs : List ℕ) → broken_entry (length nodes) fs ≡ None → length fs ≤ 1024 → length nodes ≤ 65536 → run_faults at nodes fs ≡ [] → Whole nodes fs
+runs_whole at nodes fs entries few many h =
     let each : (k : ℕ) → k < length fs → (run_fault at k (read_entity (run_at nodes fs k)) ≡ []) × (uid_fault at nodes fs k ≡ []) =
     λ k l. none_of_two (run_fault at k (read_entity (run_at nodes fs k))) (uid_fault at nodes fs k) (none_collected (faults_at at nodes fs) (length fs) 0 h k (omega arith) (omega arith)) in
     record {
       entries = entries;
-      bare = bare;
       few = few;
       many = many;
       reads = λ k l. no_run_fault at k (read_entity (run_at nodes fs k)) (each k l).0;
@@ -206,30 +209,33 @@ entry_none None rest h = (refl, h)
 entry_none (Some k) rest h = let z : ◌≡◌ {A = ℕ} 0 1 = cc in absurd (omega arith)
 
 -- a table is whole where no fault is found
-pub table_whole : (nodes : List Node) (fs : List ℕ) → table_fault nodes fs ≡ None → Whole nodes fs
-table_whole nodes fs h =
+pub table_filled : (nodes : List Node) (fs : List ℕ) → table_fault nodes fs ≡ None → Filled nodes fs
+table_filled nodes fs h =
     let at = λ (k p : ℕ) (r : Refusal). of_entity r k p in
     let a = entry_none (broken_entry (length nodes) fs) _ h in
     let b = none_of_two (table_faults nodes fs) (run_faults at nodes fs) (no_least _ a.1) in
     let c = none_of_two (fault_if (eqb (length fs) 0 && ltb 0 (length nodes)) _) _ b.0 in
     let d = none_of_two (fault_if (ltb 1024 (length fs)) _) _ c.1 in
-    runs_whole at nodes fs a.0
-    (ltb-false 1024 (length fs) (not_if _ _ d.0))
-    (ltb-false 65536 (length nodes) (not_if _ _ d.1))
-    (λ e. ⊎_elim
-    (λ (z : eqb (length fs) 0 ≡ false). absurd (eqb-false _ _ z e))
-    (λ (z : ltb 0 (length nodes) ≡ false). let l = ltb-false 0 (length nodes) z in omega arith)
-    (and_cases _ _ (not_if _ _ c.0)))
-    b.1
+    record {
+      whole = runs_whole at nodes fs a.0 (ltb-false 1024 (length fs) (not_if _ _ d.0)) (ltb-false 65536 (length nodes) (not_if _ _ d.1)) b.1;
+      bare = λ e. ⊎_elim
+          (λ (z : eqb (length fs) 0 ≡ false). absurd (eqb-false _ _ z e))
+          (λ (z : ltb 0 (length nodes) ≡ false). let l = ltb-false 0 (length nodes) z in omega arith)
+          (and_cases _ _ (not_if _ _ c.0));
+    }
+
+pub table_whole : (nodes : List Node) (fs : List ℕ) → table_fault nodes fs ≡ None → Whole nodes fs
+table_whole nodes fs h = (table_filled nodes fs h).whole
 
 -- no fault is found in a whole table
-pub whole_table : (nodes : List Node) (fs : List ℕ) → Whole nodes fs → table_fault nodes fs ≡ None
-whole_table nodes fs w =
+pub filled_table : (nodes : List Node) (fs : List ℕ) → Filled nodes fs → table_fault nodes fs ≡ None
+filled_table nodes fs f =
+    let w = f.whole in
     let at = λ (k p : ℕ) (r : Refusal). of_entity r k p in
     let bare : (eqb (length fs) 0 && ltb 0 (length nodes)) ≡ false =
     ⊎_elim
     (λ (z : 0 < length fs). and_left _ _ (ne_eqb (length fs) 0 (λ e. omega arith)))
-    (λ (z : length fs ≤ 0). let n = w.bare (omega arith) in and_right _ _ (le-ltb 0 (length nodes) (omega arith)))
+    (λ (z : length fs ≤ 0). let n = f.bare (omega arith) in and_right _ _ (le-ltb 0 (length nodes) (omega arith)))
     (cases_lt 0 (length fs)) in
     let parts : table_faults nodes fs ≡ [] =
     both_none _ _ (no_fault_if _ (of_entity Malformed 0 1) bare)

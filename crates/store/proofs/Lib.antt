@@ -1,3 +1,4 @@
 mod Ascents
-mod Entering
 pub mod Keeping
+mod Searches
+pub mod Tables

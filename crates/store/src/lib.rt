@@ -1,11 +1,11 @@
 //! Stores of entities: what they answer, and generic code over any of them.
 #![tactic(auto)]
 
-pub(crate) mod cut;
+pub(crate) mod check;
 pub mod fault_places;
 pub mod faults;
 pub mod open;
-pub(crate) mod reads;
+pub mod runs;
 pub mod search;
 pub mod store;
 pub mod table;

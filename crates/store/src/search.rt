@@ -1,18 +1,20 @@
 ghost use Rattle.std.specs.Prelude.{◌≡◌};
-ghost use Rattle.model.specs.Slots.{uid_below};
-ghost use Rattle.store.specs.Places.{place_of as listed_place};
+ghost use Rattle.model.specs.Stores.{entity_at};
+ghost use Rattle.store.specs.Places.{compared, place_of as listed_place};
 
 use crate::store::Store;
 use model::node::Uid;
+use std::cmp::Ordering;
 
-// Pairs compare by their left parts first.
-pub(crate) fn below(u: Uid, v: Uid) -> bool
-    ensures { result ≡ uid_below u v }
+// How the uid at a place of a store compares with another, if there is such a place.
+fn compare<S: Store>(store: &S, place: usize, uid: Uid) -> Option<Ordering>
+    ensures { result ≡ compared (entity_at (S.Store.entities store.now) place) uid }
 {
-    u.0 < v.0 || u.0 == v.0 && u.1 < v.1
+    store.uid(place).ok().map(|found| found.cmp(&uid))
 }
 
-// The place of a uid in a store, by halves: its uids ascend.
+// The place of a uid in a store, by halves: its uids ascend. The library's searches go over slices, and a store is asked
+// place by place.
 pub fn place_of<S: Store>(store: &S, uid: Uid) -> Option<usize>
     ensures { result ≡ listed_place (S.Store.entities store.now) uid }
 {
@@ -20,15 +22,10 @@ pub fn place_of<S: Store>(store: &S, uid: Uid) -> Option<usize>
     let mut high = store.count();
     while low < high {
         let middle = low + (high - low) / 2;
-        let Ok(found) = store.uid(middle) else {
-            return None;
-        };
-        if below(found, uid) {
-            low = middle + 1;
-        } else if below(uid, found) {
-            high = middle;
-        } else {
-            return Some(middle);
+        match compare(store, middle, uid)? {
+            Ordering::Less => low = middle + 1,
+            Ordering::Equal => return Some(middle),
+            Ordering::Greater => high = middle,
         }
     }
     None

@@ -45,4 +45,4 @@ returns c =
     (c.keep_checked-least.ensures ∙ ap (λ o. least_with None (fault_of o)) c.check_nodes.ensures)
     (c.keep_checked-least-2.ensures ∙ ap (λ o. least_with c.keep_checked-least.result (fault_of o)) c.check_end.ensures)
     (c.keep_checked-least-3.ensures ∙ ap (λ o. least_with c.keep_checked-least-2.result (fault_of o)) c.check_counts.ensures)
-    (c.keep_run_faults.ensures (subst (AllBelow 4294967296) (sym fs) (entries_below bs (λ i. omega (arith, c.type_inv.bytes i)))))
+    (c.keep_faults.ensures (subst (AllBelow 4294967296) (sym fs) (entries_below bs (λ i. omega (arith, c.type_inv.bytes i)))))

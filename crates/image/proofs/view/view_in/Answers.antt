@@ -3,6 +3,7 @@ use Rattle.model.specs.declared.node.Node.{Node}
 use Rattle.model.specs.Bytes.{u32_at}
 use Rattle.model.specs.Images.{entity_count, node_count, node_offset, image_node, image_nodes, place_entries}
 use Rattle.model.specs.Kinds.{Known}
+use Rattle.laws.proofs.ImageRuns.{filled}
 use Rattle.laws.proofs.NodeKinds.{kinds}
 use Rattle.laws.proofs.ReadBytes.{length_nodes, node_is}
 use Rattle.image.specs.declared.frame.Header.{Header}
@@ -35,6 +36,6 @@ view_of-requires c =
     let n : c.header_in-header.result.nodes ≡ node_count bs = ap (λ (v : Header). v.nodes) h in
     let l = length_nodes bs i.noded in
     let o : c.node_offset-offset.result ≡ node_offset (entity_count bs) j = c.node_offset-offset.ensures ∙ ap (λ (v : Header). node_offset v.entities j) h in
-    let k = kinds (image_nodes bs) (place_entries bs) i.whole j (image_node bs 0) (omega arith) in
+    let k = kinds (image_nodes bs) (place_entries bs) (filled i) j (image_node bs 0) (omega arith) in
     let d : (image_node bs j).kind ≡ c.u32_at.result = sym (c.u32_at.ensures ∙ ap (u32_at bs) o) in
     subst Known (ap (λ (v : Node). v.kind) (node_is bs i.noded j (image_node bs 0) (omega arith)) ∙ d) k

@@ -1,31 +1,24 @@
-use Rattle.std.proofs.Common.{◌+◌, ◌-◌, ◌/◌, ◌<◌, length, sym, ◌∙◌, subst, arith}
-use Rattle.store.proofs.Ascents.{Between, at_start, goes_up, goes_down, hits, misses, always_told}
+use Rattle.std.proofs.Common.{◌+◌, ◌-◌, ◌/◌, sym, ap, ◌∙◌, arith, Some}
+use Rattle.store.proofs.Ascents.{at_start, goes_up, goes_down, hits, misses, always_compared}
 use Rattle.store.proofs.search.place_of.Goals as goal
 
 pub loop-low-init : goal.loop-low-init
-loop-low-init g c =
-    let es = g.S.Store.entities c.args.store.now in
-    subst (λ n. Between es c.args.uid 0 n) (sym c.count-high.ensures) (at_start es c.args.uid (g.S.Store.lawful c.args.store.now).ascending)
+loop-low-init g c = at_start _ _ _ c.count-high.ensures (g.S.Store.lawful c.args.store.now).ascending
 
-pub loop-low-preserved-then-below : goal.loop-low-preserved-then-below
-loop-low-preserved-then-below g c =
-    goes_up _ _ (g.S.Store.lawful c.args.store.now).ascending c.loop-low.low c.loop-low.high _ c.in-Ok.found c.loop-low.invariant (omega arith) c.in-Ok.ensures (sym c.below.ensures ∙ c.if-below.true)
+pub returns-in_err-compare : goal.returns-in_err-compare
+returns-in_err-compare g c =
+    let l = c.loop-low.low in
+    let h = c.loop-low.high in
+    absurd (always_compared _ _ l h c.loop-low.invariant (l + (h - l) / 2) (omega arith) (sym c.compare.ensures ∙ c.in_err-compare.was))
+
+pub loop-low-preserved-in-Less : goal.loop-low-preserved-in-Less
+loop-low-preserved-in-Less g c = goes_up _ _ _ _ c.loop-low.invariant _ (omega arith) (sym c.compare.ensures ∙ (c.in_ok-compare.was ∙ ap Some c.in-Less.is))
+
+pub returns-in-Equal : goal.returns-in-Equal
+returns-in-Equal g c = hits _ _ _ _ c.loop-low.invariant _ (sym c.compare.ensures ∙ (c.in_ok-compare.was ∙ ap Some c.in-Equal.is))
 
 pub loop-low-preserved : goal.loop-low-preserved
-loop-low-preserved g c =
-    goes_down _ _ (g.S.Store.lawful c.args.store.now).ascending c.loop-low.low c.loop-low.high _ c.in-Ok.found c.loop-low.invariant (omega arith) (omega arith) c.in-Ok.ensures (sym c.below-else-below.ensures ∙ c.if-below-2.true)
-
-pub returns-else-below-2 : goal.returns-else-below-2
-returns-else-below-2 g c =
-    hits _ _ (g.S.Store.lawful c.args.store.now).ascending _ c.in-Ok.found c.in-Ok.ensures (sym c.below.ensures ∙ c.if-below.false) (sym c.below-else-below.ensures ∙ c.if-below-2.false)
+loop-low-preserved g c = goes_down _ _ _ _ c.loop-low.invariant _ (omega arith) (omega arith) (sym c.compare.ensures ∙ (c.in_ok-compare.was ∙ ap Some c.in-Greater.is))
 
 pub returns : goal.returns
-returns g c = misses _ _ (g.S.Store.lawful c.args.store.now).ascending c.loop-low.low c.loop-low.high c.loop-low.invariant (omega arith)
-
-pub returns-in_default : goal.returns-in_default
-returns-in_default g c =
-    let es = g.S.Store.entities c.args.store.now in
-    let m = c.loop-low.low + (c.loop-low.high - c.loop-low.low) / 2 in
-    let high = c.loop-low.invariant.1 in
-    let l : m < length es = omega arith in
-    absurd (always_told es c.args.uid (g.S.Store.lawful c.args.store.now).ascending m c.in_default.field-0 l c.in_default.ensures)
+returns g c = misses _ _ _ _ c.loop-low.invariant (omega arith)
