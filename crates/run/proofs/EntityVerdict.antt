@@ -1,5 +1,5 @@
 -- The verdict on an entity is that on its parts.
-use Rattle.std.proofs.Common.{◌≡◌, false, List, None, Ok, sym}
+use Rattle.std.proofs.Common.{◌≡◌, ◌≤◌, false, List, None, IfErr, Ok, sym, ◌∙◌}
 use Rattle.model.specs.declared.node.Node.{Node}
 use Rattle.model.specs.declared.slot.Slot.{Slot}
 use Rattle.model.specs.declared.slot.Slot.TheVariants.{Plain, Named, ARecord, Ancestor}
@@ -9,6 +9,8 @@ use Rattle.model.specs.Reading.{Rest, Read, and_then, whole, read_node, read_tre
 use Rattle.model.specs.Entities.{Entity, heads, entity_of, read_value, read_entity}
 use Rattle.run.specs.Reads.{seen, rest_only}
 use Rattle.run.specs.Verdicts.{Verdict, verdict, part, at_end, entity_parts}
+use Rattle.run.proofs.Exactness.{refused_of}
+use Rattle.laws.proofs.Places.{near}
 use Rattle.run.proofs.VerdictSteps.{end_is, part_is, seen_is}
 
 -- over any reading of a tree, the verdict from each part on
@@ -35,5 +37,9 @@ module _ (child : Slot → Rest → Read Tree) where
       seen_is (λ t. tt) (read_trees child h.field (Ancestor None) r') _ (tags h) (λ us r''.
       seen_is (λ t. tt) (read_trees child (magnitude h.number) (Named None) r'') _ at_end (λ ts r'''. end_is r''' (entity_of h bs us ts)))))
 
-pub entity_is : (run : List Node) → entity_parts read_value (start run) ≡ verdict (read_entity run)
-entity_is run = sym (parts_are read_value (start run))
+pub entity_is : (run : List Node) → verdict (read_entity run) ≡ entity_parts read_value (start run)
+entity_is run = parts_are read_value (start run)
+
+-- a refusal names no node beyond the one at which reading stops
+pub entity_near : (run : List Node) (r : Verdict) → r ≡ entity_parts read_value (start run) → IfErr r (λ x. x.1 ≤ 4097)
+entity_near run r e = refused_of (read_entity run) r (e ∙ sym (entity_is run)) (λ x. x.1 ≤ 4097) (λ x h. (near run x.0 x.1 h).1)

@@ -1,7 +1,7 @@
 -- A turn of the search for a name, and that it finds the field of a record.
-use Rattle.std.proofs.Common.{◌≡◌, ℕ, suc, ◌+◌, ◌-◌, ◌<◌, ◌≤◌, Bool, true, false, cond, eqb, ltb, List, ◌++◌, length, get_or, drop, Some, None, Option, sym, refl, ap, ◌∙◌, append_assoc, add-zero, arith}
+use Rattle.std.proofs.Common.{◌≢◌, ◌≡◌, ℕ, suc, ◌+◌, ◌-◌, ◌<◌, Bool, true, false, cond, eqb, ltb, List, ◌++◌, length, get_or, drop, Some, None, Option, sym, refl, ap, ◌∙◌, append_assoc, add-zero, arith}
 use Rattle.std.proofs.lemmas.List.{drop-drop, drop_at, get_or-drop, length-drop}
-use Rattle.std.proofs.lemmas.Bool.{lt-ltb, le-ltb, eq-eqb, ne_eqb, and_parts}
+use Rattle.std.proofs.lemmas.Bool.{lt-ltb, ne_eqb, and_parts}
 use Rattle.model.specs.declared.node.Node.{Node}
 use Rattle.model.specs.declared.slot.Slot.{Slot}
 use Rattle.model.specs.Slots.{next}
@@ -11,27 +11,17 @@ use Rattle.model.specs.Layouts.{values}
 use Rattle.model.specs.Formed.{fits, all_fit}
 use Rattle.model.specs.Values.{Value, prim, set, rec, Values, none, more, count, size, sizes, field_at, tree_of, trees_of}
 use Rattle.laws.proofs.ReadsOnly.{size_is}
-use Rattle.run.specs.Places.{passes, node_at, from_end, named_of, field_place, place_of}
-use Rattle.run.proofs.NextNode.{blank}
-use Rattle.run.proofs.Passing.{passes_one}
+use Rattle.run.specs.Places.{passes, node_at, from_end, named_of, place_of}
+use Rattle.run.proofs.Passing.{blank, passes_one}
 
--- a turn of the loop, whose invariant is that the values that are left give the answer r
-module _ (run : List Node) (name k i p : ℕ) {r : Option ℕ} (h : i < k) (inv : named_of run name (k - i) p ≡ r) where
-  turn : {there here : Bool} (w : Option ℕ) → there ≡ ltb p (length run) → here ≡ eqb (node_at run p).field name → w ≡ passes 1 (drop p run) p → cond there (cond here (Some p) (from_end w (named_of run name (k - (i + 1))))) None ≡ r
-  turn w a b e =
-      let d : suc (k - (i + 1)) ≡ k - i = omega arith in
-      (λ j. cond (a j) (cond (b j) (Some p) (from_end (e j) (named_of run name (k - (i + 1))))) None)
-      ∙ ap (λ m. named_of run name m p) d
-      ∙ inv
-
-  pub field_out : length run ≤ p → None ≡ r
-  field_out a = turn (passes 1 (drop p run) p) (sym (le-ltb p (length run) a)) refl refl
-
-  pub field_here : p < length run → (node_at run p).field ≡ name → Some p ≡ r
-  field_here a b = turn (passes 1 (drop p run) p) (sym (lt-ltb p (length run) a)) (sym (eq-eqb (node_at run p).field name b)) refl
-
-  pub field_on : p < length run → ((node_at run p).field ≡ name → ⊥) → (w : Option ℕ) → w ≡ passes 1 (drop p run) p → from_end w (named_of run name (k - (i + 1))) ≡ r
-  field_on a b w e = turn w (sym (lt-ltb p (length run) a)) (sym (ne_eqb (node_at run p).field name b)) e
+-- a turn of the loop: the values behind one that is named otherwise give what the values with it do
+pub field_on : (run : List Node) (name k i p q : ℕ) {n : Node} {r : Option ℕ} → i < k → (p < length run) × ((d : Node) → n ≡ get_or run p d) → n.field ≢ name → Some q ≡ passes 1 (drop p run) p → named_of run name (k - i) p ≡ r → named_of run name (k - (i + 1)) q ≡ r
+field_on run name k i p q h there other e inv =
+    let d : suc (k - (i + 1)) ≡ k - i = omega arith in
+    let not_here : false ≡ eqb (node_at run p).field name = sym (ne_eqb (node_at run p).field name (λ here. other (ap (λ n. n.field) (there.1 blank) ∙ here))) in
+    (λ j. cond (sym (lt-ltb p (length run) there.0) j) (cond (not_here j) (Some p) (from_end (e j) (named_of run name (k - (i + 1))))) None)
+    ∙ ap (λ m. named_of run name m p) d
+    ∙ inv
 
 -- the root of a tree lies where the tree lies
 at_root : (run : List Node) (p : ℕ) (t : Tree) (post : List Node) → drop p run ≡ run_of t ++ post → (p < length run) × (node_at run p ≡ root t)
@@ -79,12 +69,12 @@ named_is run name s (more m v vs) p post f lies =
     ∙ ap (cond (eqb m name) (Some p)) (named_is run name (next s (root t)) vs (p + size v) post g.1 lies'')
     ∙ place_cond (eqb m name) p v (field_at name (p + size v) vs)
 
--- the field of a record that lies there
-pub field_is : (run : List Node) (name p : ℕ) (s : Slot) (f : ℕ) (vs : Values) (post : List Node) → fits values s (tree_of f (rec vs)) ≡ true → drop p run ≡ run_of (tree_of f (rec vs)) ++ post → field_place run name p ≡ place_of (field_at name (p + 1) vs)
-field_is run name p s f vs post fit lies =
+-- the field of a record that lies there, whose node announces as many fields
+pub field_is : (run : List Node) (name p a : ℕ) (s : Slot) (f : ℕ) (vs : Values) (post : List Node) → fits values s (tree_of f (rec vs)) ≡ true → drop p run ≡ run_of (tree_of f (rec vs)) ++ post → a ≡ (node_at run p).a → named_of run name a (p + 1) ≡ place_of (field_at name (p + 1) vs)
+field_is run name p a s f vs post fit lies many =
     let t : Tree = tree_of f (rec vs) in
     let first = at_root run p t post lies in
     let parts = and_parts (values.takes s (root t)) _ fit in
     let inner = and_parts (eqb (trees.count (trees_of vs)) (count vs)) _ parts.1 in
-    (λ i. cond (lt-ltb p (length run) first.0 i) (cond (eqb (first.1 i).kind 6) (named_of run name (first.1 i).a (p + 1)) None) None)
+    ap (λ k. named_of run name k (p + 1)) (many ∙ ap (λ n. n.a) first.1)
     ∙ named_is run name (values.inside (root t)) vs (p + 1) post inner.1 (sym (drop-drop 1 p run) ∙ ap (drop 1) lies)

@@ -1,9 +1,8 @@
-mod EntityVerdict
-mod Exactness
-mod FieldPlaces
-mod NextNode
-mod Passing
-mod RequestVerdict
-mod TreesInTurn
-mod Unknown
-mod VerdictSteps
+pub mod EntityVerdict
+pub mod Exactness
+pub mod FieldPlaces
+pub mod Passing
+pub mod RequestVerdict
+pub mod TreesInTurn
+pub mod Unknown
+pub mod VerdictSteps

@@ -43,5 +43,5 @@ module _ (child : Slot → Rest → Read Tree) where
       seen_is root (child ARecord r'') _ at_end (λ c r'''. end_is r''' (request_of p a s c)))))
       ∙ in_turn 3 context r₀
 
-pub request_is : (run : List Node) → request_parts read_value (start run) ≡ verdict (read_request run)
-request_is run = sym (parts_are read_value (start run))
+pub request_is : (run : List Node) → verdict (read_request run) ≡ request_parts read_value (start run)
+request_is run = parts_are read_value (start run)

@@ -1,19 +1,19 @@
 -- What the definitions say of a node whose kind is none of the numbers.
-use Rattle.std.proofs.Common.{◌≡◌, ◌≢◌, ℕ, ◌<◌, true, false, arith}
+use Rattle.std.proofs.Common.{◌≡◌, ◌≢◌, ℕ, ◌<◌, false, arith}
 use Rattle.std.proofs.lemmas.Bool.Decides.{nat_tests}
 use Rattle.model.specs.declared.node.Node.{Node}
 use Rattle.model.specs.declared.kind.ValueKind.TheVariants as value
 use Rattle.model.specs.declared.kind.TypeKind.TheVariants as type
 use Rattle.model.specs.declared.kind.ExtensionKind.TheVariants.{Decimal, Ipaddr, Datetime, Duration}
 use Rattle.model.specs.Kinds.{value_number, type_number, extension_code}
-use Rattle.model.specs.Layouts.{extension_node, value_node, value_kept, value_arity, type_node, type_kept, type_arity}
+use Rattle.model.specs.Layouts.{value_node}
 
 -- no kind has the number
-abbrev NoKind : {K : Type 0} → (K → ℕ) → ℕ → Type 0
+abbrev pub NoKind : {K : Type 0} → (K → ℕ) → ℕ → Type 0
 NoKind {K} number n = (k : K) → number k ≢ n
 
 -- a number of no kind is 0 or beyond the numbers of the kinds
-no_value : (k : ℕ) → NoKind value_number k → 0 < k → 7 < k
+pub no_value : (k : ℕ) → NoKind value_number k → 0 < k → 7 < k
 no_value k h some =
     let a : 1 ≡ k → ⊥ = h value.Bool in
     let b : 2 ≡ k → ⊥ = h value.Long in
@@ -24,7 +24,10 @@ no_value k h some =
     let g : 7 ≡ k → ⊥ = h value.Extension in
     omega arith
 
-no_extension : (k : ℕ) → NoKind extension_code k → 0 < k → 4 < k
+pub no_value_node : (n : Node) → NoKind value_number n.kind → false ≡ value_node n
+no_value_node n h = let z : 0 < n.kind → 7 < n.kind = no_value n.kind h in grind (arith, nat_tests)
+
+pub no_extension : (k : ℕ) → NoKind extension_code k → 0 < k → 4 < k
 no_extension k h some =
     let a : 1 ≡ k → ⊥ = h Decimal in
     let b : 2 ≡ k → ⊥ = h Ipaddr in
@@ -32,7 +35,7 @@ no_extension k h some =
     let d : 4 ≡ k → ⊥ = h Duration in
     omega arith
 
-no_type : (k : ℕ) → NoKind type_number k → 0 < k → 14 < k
+pub no_type : (k : ℕ) → NoKind type_number k → 0 < k → 14 < k
 no_type k h some =
     let a : 1 ≡ k → ⊥ = h type.Bool in
     let b : 2 ≡ k → ⊥ = h type.True in
@@ -49,24 +52,3 @@ no_type k h some =
     let o : 13 ≡ k → ⊥ = h type.OpenRecord in
     let p : 14 ≡ k → ⊥ = h type.Never in
     omega arith
-
-pub no_value_node : (n : Node) → NoKind value_number n.kind → false ≡ value_node n
-no_value_node n h = let z : 0 < n.kind → 7 < n.kind = no_value n.kind h in grind (arith, nat_tests)
-
-pub no_value_kept : (n : Node) → NoKind value_number n.kind → true ≡ value_kept n
-no_value_kept n h = let z : 0 < n.kind → 7 < n.kind = no_value n.kind h in grind (arith, nat_tests)
-
-pub no_value_arity : (n : Node) → NoKind value_number n.kind → 0 ≡ value_arity n
-no_value_arity n h = let z : 0 < n.kind → 7 < n.kind = no_value n.kind h in grind (arith, nat_tests)
-
-pub no_extension_node : (n : Node) → NoKind extension_code n.a → false ≡ extension_node n
-no_extension_node n h = let z : 0 < n.a → 4 < n.a = no_extension n.a h in grind (arith, nat_tests)
-
-pub no_type_node : (n : Node) → NoKind type_number n.kind → false ≡ type_node n
-no_type_node n h = let z : 0 < n.kind → 14 < n.kind = no_type n.kind h in grind (arith, nat_tests)
-
-pub no_type_kept : (n : Node) → NoKind type_number n.kind → true ≡ type_kept n
-no_type_kept n h = let z : 0 < n.kind → 14 < n.kind = no_type n.kind h in grind (arith, nat_tests)
-
-pub no_type_arity : (n : Node) → NoKind type_number n.kind → 0 ≡ type_arity n
-no_type_arity n h = let z : 0 < n.kind → 14 < n.kind = no_type n.kind h in grind (arith, nat_tests)

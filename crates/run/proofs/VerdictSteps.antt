@@ -1,16 +1,12 @@
 -- The verdict on a whole run, one part of it after another: what is read does not matter, only what is left.
-use Rattle.std.proofs.Common.{◌≡◌, ℕ, ◌+◌, ◌<◌, ◌≤◌, List, [], ◌∷◌, length, Some, None, Ok, Err, Option, sym, refl, ap, ◌∙◌}
-use Rattle.std.proofs.lemmas.List.{at_drop_more, at_drop_all}
+use Rattle.std.proofs.Common.{◌≡◌, ℕ, List, [], ◌∷◌, Some, None, Ok, Err, Option, sym, refl}
 use Rattle.model.specs.declared.node.Node.{Node}
-use Rattle.model.specs.declared.fault.Refusal.TheVariants.{Malformed}
 use Rattle.model.specs.declared.slot.Slot.{Slot}
 use Rattle.model.specs.Trees.{Tree, root}
 use Rattle.model.specs.Layouts.{Layout}
 use Rattle.model.specs.Reading.{Rest, Read, and_then, unless_passed, ended, whole, read_tree, read_run, start}
-use Rattle.run.specs.declared.reading.Rest as code
-use Rattle.run.specs.Reads.{left, seen}
+use Rattle.run.specs.Reads.{seen}
 use Rattle.run.specs.Verdicts.{Verdict, verdict, part, at_end}
-use Rattle.run.proofs.NextNode.{blank}
 
 unless_is : {X : Type 0} (o : Option ℕ) (x : X) → verdict (unless_passed o x) ≡ unless_passed o tt
 unless_is None x = refl
@@ -38,12 +34,5 @@ one_tree : (o : Read Tree) → part (seen root o) (λ n r. at_end r) ≡ verdict
 one_tree (Ok x) = sym (end_is x.1 x.0)
 one_tree (Err e) = refl
 
-pub tree_verdict : (l : Layout) (s : Slot) (run : List Node) (w : Read Node) → w ≡ seen root (read_tree l 16 s (start run)) → part w (λ n r. at_end r) ≡ verdict (read_run l s run)
-tree_verdict l s run w e = ap (λ v. part v (λ n r. at_end r)) e ∙ one_tree (read_tree l 16 s (start run))
-
--- a node is left over, and none is
-pub left_over : (run : List Node) (r : code.Rest) → r.read < length run → Err (Malformed, r.read + 1) ≡ at_end (left run r)
-left_over run r h = sym (at_drop_more (λ ns. ended ns (left run r) tt) run r.read blank h)
-
-pub none_left : (run : List Node) (r : code.Rest) → length run ≤ r.read → unless_passed r.passed tt ≡ at_end (left run r)
-none_left run r h = sym (at_drop_all (λ ns. ended ns (left run r) tt) run r.read h)
+pub tree_is : (l : Layout) (s : Slot) (run : List Node) → verdict (read_run l s run) ≡ part (seen root (read_tree l 16 s (start run))) (λ n r. at_end r)
+tree_is l s run = sym (one_tree (read_tree l 16 s (start run)))

@@ -1,4 +1,3 @@
-pub mod Languages
 pub mod Places
 pub mod Reads
 pub mod Verdicts

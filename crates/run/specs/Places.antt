@@ -15,6 +15,7 @@ passes (suc n) (x ∷ xs) p = passes (n + value_arity x) xs (p + 1)
 abbrev pub node_at : List Node → ℕ → Node
 node_at run p = slice_index_or run p (plain 0 0 0 (pos 0))
 
+-- what follows a place, if there is one
 abbrev pub from_end : Option ℕ → (ℕ → Option ℕ) → Option ℕ
 from_end None f = None
 from_end (Some p) f = f p

@@ -9,6 +9,7 @@ use Rattle.model.specs.Reading.{Rest, Read, Refused, ended, read_node, read_tree
 use Rattle.model.specs.Entities.{heads}
 use Rattle.run.specs.Reads.{seen, rest_only}
 
+-- the answer of a check
 abbrev pub Verdict : Type 0
 Verdict = Result (Unit {0}) Refused
 
@@ -24,6 +25,7 @@ pub record Exact {X : Type 0} (Formed : X → Type 0) (written : X → List Node
 
 -- The verdict by the parts of a run in turn: of each only that it is read, and what is left behind it.
 
+-- a part, and then the verdict behind it
 abbrev pub part : {X : Type 0} → Read X → (X → Rest → Verdict) → Verdict
 part (Ok x) g = g x.0 x.1
 part (Err e) g = Err e

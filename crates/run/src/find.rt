@@ -5,7 +5,8 @@ ghost use Rattle.model.specs.Formed.{fits};
 ghost use Rattle.model.specs.Values.{Values, rec, tree_of, field_at};
 ghost use Rattle.run.specs.Places.{passes, named_of, field_place, place_of};
 
-use crate::value_node::arity;
+use crate::language::Language;
+use crate::value_node;
 use model::kind::ValueKind;
 use model::node::{Name, Node};
 use model::slot::Slot;
@@ -15,17 +16,16 @@ pub fn end_of(run: &[Node], at: usize) -> Option<usize>
     ensures is { result ≡ passes 1 (drop at run.now) at }
     ensures tree { (s : Slot) (t : Tree) (rest : List Node) → fits values s t ≡ true → drop at run.now ≡ run_of t ++ rest → result ≡ Some (at + size t) }
 {
-    let mut place = at;
-    // how many values are still to be passed; each has a node at least
+    let nodes = run.get(at..)?;
+    // How many values are still to be passed. A sum that does not fit is more than there are nodes, and so never falls to 0.
     let mut open: usize = 1;
-    while open > 0 {
-        if run.len().saturating_sub(place) < open {
-            return None;
+    for (i, &node) in nodes.iter().enumerate() {
+        open = (open - 1).saturating_add(value_node::Values::arity(node) as usize);
+        if open == 0 {
+            return Some(at + i + 1);
         }
-        open = open - 1 + arity(run[place]) as usize;
-        place += 1;
     }
-    Some(place)
+    None
 }
 
 // Of so many values in turn, the first of them at `first`, the place of the one that is named so.
@@ -34,10 +34,7 @@ fn named(run: &[Node], name: Name, count: u32, first: usize) -> Option<usize>
 {
     let mut place = first;
     for _ in 0..count {
-        if place >= run.len() {
-            return None;
-        }
-        if run[place].field == name {
+        if run.get(place)?.field == name {
             return Some(place);
         }
         place = end_of(run, place)?;
@@ -45,24 +42,15 @@ fn named(run: &[Node], name: Name, count: u32, first: usize) -> Option<usize>
     None
 }
 
-// The place of the field `name` of the record at `at`, by its nodes.
-fn field_of(run: &[Node], at: usize, name: Name) -> Option<usize>
-    ensures { result ≡ field_place run.now name at }
-{
-    if at >= run.len() {
-        return None;
-    }
-    let record = run[at];
-    if record.kind != u32::from(ValueKind::Record) {
-        return None;
-    }
-    named(run, name, record.a, at + 1)
-}
-
 // The place of the field `name` of the record at `at`, where it has one.
+#[tactic(auto, using(crate::proofs::FieldPlaces::field_is))]
 pub fn child(run: &[Node], at: usize, name: Name) -> Option<usize>
     ensures is { result ≡ field_place run.now name at }
     ensures field { (s : Slot) (f : ℕ) (vs : Values) (rest : List Node) → fits values s (tree_of f (rec vs)) ≡ true → drop at run.now ≡ run_of (tree_of f (rec vs)) ++ rest → result ≡ place_of (field_at name (at + 1) vs) }
 {
-    field_of(run, at, name)
+    let record = run.get(at)?;
+    if record.kind != u32::from(ValueKind::Record) {
+        return None;
+    }
+    named(run, name, record.a, at + 1)
 }

@@ -5,7 +5,6 @@ pub mod check;
 pub mod find;
 mod head_node;
 mod language;
-mod part;
 mod reading;
 mod type_node;
 mod value_node;

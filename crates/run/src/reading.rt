@@ -1,136 +1,121 @@
-ghost use Rattle.std.specs.Prelude.{◌≡◌, ◌≤◌, length, IfOk};
+ghost use Rattle.std.specs.Prelude.{◌≡◌, ◌==◌};
 ghost use Rattle.model.specs.Trees.{root};
-ghost use Rattle.model.specs.Reading.{read_node, read_tree, read_trees};
-ghost use Rattle.run.specs.Languages.{layout_of};
-ghost use Rattle.run.specs.Reads.{left, judgement, told, Reads, ReadsPast};
+ghost use Rattle.model.specs.Reading.{start, read_node, read_tree, read_trees};
+ghost use Rattle.run.specs.Reads.{told, seen, rest_only};
+ghost use Rattle.run.specs.Verdicts.{at_end};
 
 use crate::language::Language;
 use model::fault::Refusal;
 use model::limits;
 use model::node::Node;
 use model::slot::Slot;
+use std::marker::Model;
 
-// A refusal and the node at which it stands, counted from 1.
+// A refusal and the node at which it stands, counted from 1. A pair, as the definition of reading answers it.
 pub type Refused = (Refusal, usize);
 
-// How far a run is read.
-#[derive(Clone, Copy)]
-pub(crate) struct Rest {
-    // how many nodes are read
-    pub(crate) read: usize,
-    // the first node, counted from 1, that passed a limit
-    pub(crate) passed: Option<usize>,
-}
-
-impl Rest {
-    // Nothing is read.
-    pub(crate) const START: Rest = Rest {
-        read: 0,
-        passed: None,
-    };
-}
-
-// Judges a node in a slot, at a place counted from 1; `deep` where it nests deeper than it may. It gives the first node so
-// far that passed a limit. A broken layout stands before a passed limit, and a node that is too many or too deep stops.
-fn judge(
-    language: Language,
-    deep: bool,
-    slot: Slot,
-    node: Node,
+// A run that is being read.
+#[derive(Drop)]
+pub(crate) struct Reader<'r> {
+    // the nodes that are left
+    nodes: &'r [Node],
+    // the number of the first of them, counted from 1
     place: usize,
+    // the first node, counted from 1, that passed a limit
     passed: Option<usize>,
-) -> Result<Option<usize>, Refused>
-    ensures { result ≡ judgement (layout_of language) deep slot node place passed }
-{
-    if !language.takes(slot, node) {
-        return Err((Refusal::Malformed, place));
-    }
-    let first = passed.unwrap_or(place);
-    if deep || place > limits::RUN_NODES {
-        return Err((Refusal::Limit, first));
-    }
-    if language.keeps(slot, node) {
-        Ok(passed)
-    } else {
-        Ok(Some(first))
-    }
 }
 
-// The next node, in a slot; `deep` where it nests deeper than it may.
-pub(crate) fn read_node(
-    language: Language,
-    run: &[Node],
-    deep: bool,
-    slot: Slot,
-    rest: Rest,
-) -> Result<(Node, Rest), Refused>
-    requires { rest.read ≤ length run.now }
-    ensures is { told run.now result ≡ read_node (layout_of language) deep slot (left run.now rest) }
-    ensures within { IfOk result (λ x. x.1.read ≤ length run.now) }
-{
-    let place = rest.read + 1;
-    if rest.read >= run.len() {
-        return Err((Refusal::Malformed, place));
-    }
-    let node = run[rest.read];
-    let passed = judge(language, deep, slot, node, place, rest.passed)?;
-    let read = Rest {
-        read: place,
-        passed,
-    };
-    Ok((node, read))
+// A reader is seen as what the definition of reading has left of a run. Reading stops at node 4,097, so places are no larger.
+impl<'r> Model for Reader<'r> {
+    ghost use Rattle.std.specs.Prelude.{◌≤◌};
+    ghost use Rattle.model.specs.Reading.{Rest};
+
+    ghost Value = { Rest };
+
+    ghost view = { λ r. record { nodes = r.nodes.now; place = r.place; passed = r.passed } };
+
+    ghost invariant = { λ r. r.place ≤ 4097 };
 }
 
-// The root of the next tree, which nests at most `room` deep, with everything below it read.
-#[cycle(read_tree_read_trees)]
-pub(crate) fn read_tree(
-    language: Language,
-    run: &[Node],
-    room: usize,
-    slot: Slot,
-    rest: Rest,
-) -> Result<(Node, Rest), Refused>
-    requires { rest.read ≤ length run.now }
-    ensures is { Reads run.now root (read_tree (layout_of language) room slot (left run.now rest)) result }
-    ensures within { IfOk result (λ x. x.1.read ≤ length run.now) }
-{
-    let (node, rest) = read_node(language, run, room == 0, slot, rest)?;
-    if room == 0 {
-        return Ok((node, rest));
+impl<'r> Reader<'r> {
+    // Nothing is read.
+    pub(crate) fn new(run: &'r [Node]) -> Reader<'r>
+        ensures { result ≡ start run.now }
+    {
+        Reader {
+            nodes: run,
+            place: 1,
+            passed: None,
+        }
     }
-    let children = language.arity(node) as u64;
-    let rest = read_trees(
-        language,
-        run,
-        room - 1,
-        children,
-        language.inside(node),
-        rest,
-    )?;
-    Ok((node, rest))
-}
 
-// So many trees in turn, the first of them in this slot. A count may announce more than there are nodes: reading then
-// ends at the node that is missing.
-#[cycle(read_tree_read_trees)]
-pub(crate) fn read_trees(
-    language: Language,
-    run: &[Node],
-    room: usize,
-    count: u64,
-    slot: Slot,
-    rest: Rest,
-) -> Result<Rest, Refused>
-    requires { rest.read ≤ length run.now }
-    ensures is { ReadsPast run.now (read_trees (read_tree (layout_of language) room) count slot (left run.now rest)) result }
-    ensures within { IfOk result (λ x. x.read ≤ length run.now) }
-{
-    let mut slot = slot;
-    let mut rest = rest;
-    for _ in 0..count {
-        let (node, read) = read_tree(language, run, room, slot, rest)?;
-        slot = slot.next(node);
-        rest = read;
+    // The next node, in a slot, where so much nesting is left. A broken layout stands before a passed limit, and a node that
+    // is too many or too deep stops.
+    pub(crate) fn node<L: Language>(&mut self, room: usize, slot: Slot) -> Result<Node, Refused>
+        ensures { told result self.new ≡ read_node L.layout (room == 0) slot self.old }
+    {
+        let place = self.place;
+        let Some((&node, rest)) = self.nodes.split_first() else {
+            return Err((Refusal::Malformed, place));
+        };
+        if !L::takes(slot, node) {
+            return Err((Refusal::Malformed, place));
+        }
+        let first = self.passed.unwrap_or(place);
+        if room == 0 || place > limits::RUN_NODES {
+            return Err((Refusal::Limit, first));
+        }
+        if !L::keeps(slot, node) {
+            self.passed = Some(first);
+        }
+        self.nodes = rest;
+        self.place = place + 1;
+        Ok(node)
     }
-    Ok(rest)
+
+    // The root of the next tree, which nests at most `room` deep, with everything below it read.
+    #[cycle(tree_trees)]
+    #[tactic(auto, using(crate::proofs::TreesInTurn::tree_step))]
+    pub(crate) fn tree<L: Language>(&mut self, room: usize, slot: Slot) -> Result<Node, Refused>
+        ensures { told result self.new ≡ seen root (read_tree L.layout room slot self.old) }
+    {
+        let node = self.node::<L>(room, slot)?;
+        if room > 0 {
+            self.trees::<L>(room - 1, u64::from(L::arity(node)), L::inside(node))?;
+        }
+        Ok(node)
+    }
+
+    // So many trees in turn, the first of them in this slot. A count may announce more than there are nodes: reading then
+    // ends at the node that is missing.
+    #[cycle(tree_trees)]
+    #[tactic(auto, using(crate::proofs::TreesInTurn::turn_on))]
+    pub(crate) fn trees<L: Language>(
+        &mut self,
+        room: usize,
+        count: u64,
+        slot: Slot,
+    ) -> Result<(), Refused>
+        ensures { told result self.new ≡ rest_only (read_trees (read_tree L.layout room) count slot self.old) }
+    {
+        let mut slot = slot;
+        for _ in 0..count {
+            let node = self.tree::<L>(room, slot)?;
+            slot = slot.next(node);
+        }
+        Ok(())
+    }
+
+    // Everything that has to be there is read: a node that is left over breaks the run, else the first passed limit stands.
+    pub(crate) fn finish(self) -> Result<(), Refused>
+        ensures { result ≡ at_end self.entry }
+    {
+        if !self.nodes.is_empty() {
+            return Err((Refusal::Malformed, self.place));
+        }
+        match self.passed {
+            Some(place) => Err((Refusal::Limit, place)),
+            None => Ok(()),
+        }
+    }
 }

@@ -1,14 +1,49 @@
 ghost use Rattle.std.specs.Prelude.{◌≡◌};
-ghost use Rattle.model.specs.Layouts.{type_node, type_mark, type_kept, type_arity};
+ghost use Rattle.model.specs.Layouts.{types, type_node, type_mark, type_kept};
 
-use crate::part::is_below;
+use crate::language::{Language, keeps_name};
 use model::kind::TypeKind;
 use model::limits;
 use model::node::Node;
 use model::slot::Slot;
 
+// The nodes of a type.
+pub(crate) struct Types;
+
+impl Language for Types {
+    ghost layout = { types };
+
+    fn takes(slot: Slot, node: Node) -> bool {
+        let is_record = node.kind == u32::from(TypeKind::ClosedRecord)
+            || node.kind == u32::from(TypeKind::OpenRecord);
+        slot.fills(is_record, false, node) && is_type(node) && has_number(slot, node)
+    }
+
+    fn keeps(slot: Slot, node: Node) -> bool {
+        keeps_name(slot, node) && keeps_limits(node)
+    }
+
+    #[tactic(auto, using(crate::proofs::Unknown::no_type))]
+    fn arity(node: Node) -> u32 {
+        match TypeKind::try_from(node.kind) {
+            Ok(TypeKind::Set) => 1,
+            Ok(TypeKind::ClosedRecord | TypeKind::OpenRecord) => node.a,
+            _ => 0,
+        }
+    }
+
+    fn inside(node: Node) -> Slot {
+        if node.kind == u32::from(TypeKind::Set) {
+            Slot::Plain
+        } else {
+            Slot::Named(None)
+        }
+    }
+}
+
 // A node of a type uses `a` for the name of an entity type, the code of an extension or the count of fields, and never `b`.
-pub(crate) fn is_type(node: Node) -> bool
+#[tactic(auto, using(crate::proofs::Unknown::no_type))]
+fn is_type(node: Node) -> bool
     ensures { result ≡ type_node node }
 {
     node.b == 0
@@ -21,39 +56,23 @@ pub(crate) fn is_type(node: Node) -> bool
 }
 
 // The part `number` of a node of a type: a record field says by 1 or 0 whether it is required, any other node has 0.
-pub(crate) fn has_number(slot: Slot, node: Node) -> bool
+fn has_number(slot: Slot, node: Node) -> bool
     ensures { result ≡ type_mark slot node }
 {
     match slot {
-        Slot::Named(_) => is_below(node.number, 2),
-        _ => is_below(node.number, 1),
+        Slot::Named(_) => (0..2).contains(&node.number),
+        _ => node.number == 0,
     }
 }
 
 // The name or count of a node of a type keeps the limits.
-pub(crate) fn keeps_limits(node: Node) -> bool
+#[tactic(auto, using(crate::proofs::Unknown::no_type))]
+fn keeps_limits(node: Node) -> bool
     ensures { result ≡ type_kept node }
 {
-    let Ok(kind) = TypeKind::try_from(node.kind) else {
-        return true;
-    };
-    match kind {
-        TypeKind::Entity => node.a < limits::NAMES,
-        TypeKind::ClosedRecord | TypeKind::OpenRecord => node.a <= limits::RECORD_FIELDS,
+    match TypeKind::try_from(node.kind) {
+        Ok(TypeKind::Entity) => node.a < limits::NAMES,
+        Ok(TypeKind::ClosedRecord | TypeKind::OpenRecord) => node.a <= limits::RECORD_FIELDS,
         _ => true,
-    }
-}
-
-// How many children a node of a type announces.
-pub(crate) fn arity(node: Node) -> u32
-    ensures { result ≡ type_arity node }
-{
-    let Ok(kind) = TypeKind::try_from(node.kind) else {
-        return 0;
-    };
-    match kind {
-        TypeKind::Set => 1,
-        TypeKind::ClosedRecord | TypeKind::OpenRecord => node.a,
-        _ => 0,
     }
 }

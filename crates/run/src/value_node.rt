@@ -1,63 +1,83 @@
 ghost use Rattle.std.specs.Prelude.{◌≡◌};
-ghost use Rattle.model.specs.Layouts.{extension_node, value_node, value_kept, value_arity};
+ghost use Rattle.model.specs.Layouts.{values, extension_node, value_node, value_kept};
 
-use crate::part::is_below;
+use crate::language::{Language, keeps_name};
 use model::kind::{ExtensionKind, ValueKind};
 use model::limits;
 use model::node::Node;
+use model::slot::Slot;
+
+// The nodes of a value.
+pub(crate) struct Values;
+
+impl Language for Values {
+    ghost layout = { values };
+
+    fn takes(slot: Slot, node: Node) -> bool {
+        let is_record = node.kind == u32::from(ValueKind::Record);
+        let is_uid = node.kind == u32::from(ValueKind::Uid);
+        slot.fills(is_record, is_uid, node) && is_value(node)
+    }
+
+    fn keeps(slot: Slot, node: Node) -> bool {
+        keeps_name(slot, node) && keeps_limits(node)
+    }
+
+    #[tactic(auto, using(crate::proofs::Unknown::no_value))]
+    fn arity(node: Node) -> u32 {
+        match ValueKind::try_from(node.kind) {
+            Ok(ValueKind::Set | ValueKind::Record) => node.a,
+            _ => 0,
+        }
+    }
+
+    fn inside(node: Node) -> Slot {
+        if node.kind == u32::from(ValueKind::Record) {
+            Slot::Named(None)
+        } else {
+            Slot::Plain
+        }
+    }
+}
 
 // An extension value; only an address uses `b`, for its prefix.
+#[tactic(auto, using(crate::proofs::Unknown::no_extension))]
 fn is_extension(node: Node) -> bool
     ensures { result ≡ extension_node node }
 {
     match ExtensionKind::try_from(node.a) {
-        Ok(ExtensionKind::Ipaddr) => node.b <= 32 && is_below(node.number, 0x1_0000_0000),
+        Ok(ExtensionKind::Ipaddr) => node.b <= 32 && (0..0x1_0000_0000).contains(&node.number),
         Ok(_) => node.b == 0,
         Err(_) => false,
     }
 }
 
 // The parts that a node of a value uses are in their range, and the others 0.
-pub(crate) fn is_value(node: Node) -> bool
+#[tactic(auto, using(crate::proofs::Unknown::no_value_node))]
+fn is_value(node: Node) -> bool
     ensures { result ≡ value_node node }
 {
     match ValueKind::try_from(node.kind) {
-        Ok(ValueKind::Bool) => node.a == 0 && node.b == 0 && is_below(node.number, 2),
+        Ok(ValueKind::Bool) => node.a == 0 && node.b == 0 && (0..2).contains(&node.number),
         Ok(ValueKind::Long) => node.a == 0 && node.b == 0,
-        Ok(ValueKind::String | ValueKind::Set | ValueKind::Record) => {
-            node.b == 0 && is_below(node.number, 1)
-        }
-        Ok(ValueKind::Uid) => is_below(node.number, 1),
+        Ok(ValueKind::String | ValueKind::Set | ValueKind::Record) => node.b == 0
+            && node.number == 0,
+        Ok(ValueKind::Uid) => node.number == 0,
         Ok(ValueKind::Extension) => is_extension(node),
         Err(_) => false,
     }
 }
 
 // The names and counts of a node of a value keep the limits.
-pub(crate) fn keeps_limits(node: Node) -> bool
+#[tactic(auto, using(crate::proofs::Unknown::no_value))]
+fn keeps_limits(node: Node) -> bool
     ensures { result ≡ value_kept node }
 {
-    let Ok(kind) = ValueKind::try_from(node.kind) else {
-        return true;
-    };
-    match kind {
-        ValueKind::String => node.a < limits::NAMES,
-        ValueKind::Uid => node.a < limits::NAMES && node.b < limits::NAMES,
-        ValueKind::Set => node.a <= limits::SET_ELEMENTS,
-        ValueKind::Record => node.a <= limits::RECORD_FIELDS,
+    match ValueKind::try_from(node.kind) {
+        Ok(ValueKind::String) => node.a < limits::NAMES,
+        Ok(ValueKind::Uid) => node.a < limits::NAMES && node.b < limits::NAMES,
+        Ok(ValueKind::Set) => node.a <= limits::SET_ELEMENTS,
+        Ok(ValueKind::Record) => node.a <= limits::RECORD_FIELDS,
         _ => true,
-    }
-}
-
-// How many children a node of a value announces.
-pub(crate) fn arity(node: Node) -> u32
-    ensures { result ≡ value_arity node }
-{
-    let Ok(kind) = ValueKind::try_from(node.kind) else {
-        return 0;
-    };
-    match kind {
-        ValueKind::Set | ValueKind::Record => node.a,
-        _ => 0,
     }
 }

@@ -1,5 +1,0 @@
-use Rattle.run.proofs.Unknown.{no_type_arity}
-use Rattle.run.proofs.type_node.arity.Goals as goal
-
-pub returns-in_default : goal.returns-in_default
-returns-in_default c = no_type_arity c.args.node c.in_default.ensures.1

@@ -1,5 +1,0 @@
-use Rattle.run.proofs.Unknown.{no_value_node}
-use Rattle.run.proofs.value_node.is_value.Goals as goal
-
-pub returns-in-Err : goal.returns-in-Err
-returns-in-Err c = no_value_node c.args.node c.in-Err.ensures.1
