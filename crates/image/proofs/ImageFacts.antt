@@ -1,34 +1,37 @@
--- Where the runs of an image lie.
-use Rattle.std.proofs.Common.{◌≡◌, ℕ, suc, ◌+◌, ◌-◌, ◌<◌, ◌≤◌, List, [], ◌∷◌, ◌++◌, map, length, get_or, take, drop, set, Ok, Err, sym, refl, ap, ◌∙◌, ⊎_elim, append_assoc, arith}
+-- Where the runs of an image lie, and what it answers.
+use Rattle.std.proofs.Common.{◌≡◌, ℕ, suc, ◌+◌, ◌-◌, ◌<◌, ◌≤◌, List, [], ◌∷◌, ◌++◌, map, length, get_or, take, drop, set, Ok, Err, sym, refl, ap, ◌∙◌, subst, ⊎_elim, append_assoc, arith}
 use Rattle.std.specs.List.{range_with_len}
-use Rattle.std.proofs.lemmas.Bool.{cases_lt, lt-ltb, le-ltb, cond-true, cond-false, leb-true}
+use Rattle.std.proofs.lemmas.Bool.{cases_lt, lt-ltb, le-ltb, cond-true, cond-false}
 use Rattle.std.proofs.lemmas.List.FromFn.{length-map-range_with_len, map-range_with_len_more}
-use Rattle.std.proofs.lemmas.List.{drop_more, set_at}
+use Rattle.std.proofs.lemmas.List.{append-nil, drop_all, drop_more, set_at}
 use Rattle.model.specs.declared.node.Node.{Node}
 use Rattle.model.specs.declared.fault.Refusal.TheVariants.{Limit}
 use Rattle.model.specs.declared.fault.Layer.TheVariants.{Entity as entity_layer}
 use Rattle.model.specs.Faults.{whole_call}
 use Rattle.model.specs.Entities.{head_uid}
 use Rattle.model.specs.Stores.{first_at, end_at, run_at, no_such_place, uid_answer, loaded, load_answer}
-use Rattle.model.specs.Images.{entity_count, node_count, entry_offset, first_node, node_offset, image_node, whole_nodes, image_nodes, place_entries, image_entities}
+use Rattle.model.specs.Bytes.{u32_at}
+use Rattle.model.specs.Kinds.{Known}
+use Rattle.model.specs.Images.{entity_count, node_count, first_node, node_offset, image_node, whole_nodes, image_nodes, place_entries, image_entities}
 use Rattle.laws.proofs.Counts.{part_map_counting}
-use Rattle.laws.proofs.WholeRuns.{Sound, sound, uid_there, uid_nowhere, load_there, load_nowhere}
-use Rattle.laws.proofs.ReadBytes.{header_facts, length_entries, entry_is, entry_within, entries_sound, node_within, nodes_whole, length_nodes, all_there}
-use Rattle.laws.proofs.ImageRuns.{Imaged}
-use Rattle.image.specs.Faultless.{end_node}
+use Rattle.laws.proofs.WholeRuns.{Sound, sound, entities_length, uid_there, uid_nowhere, load_there, load_nowhere}
+use Rattle.laws.proofs.ReadBytes.{length_entries, entry_is, entries_sound, nodes_whole, length_nodes, node_is, all_length}
+use Rattle.laws.proofs.NodeKinds.{kinds}
+use Rattle.image.proofs.Parts.{u32_of_part}
+use Rattle.laws.proofs.ImageRuns.{Imaged, filled}
+use Rattle.image.specs.Faultless.{Faultless, end_node, RunOf, imaged}
 
-module _ (bs : List ℕ) (i : Imaged bs) where
-  -- the header is there
-  pub long : 16 ≤ length bs
-  long = (header_facts bs i.headed).long
+module _ (bs : List ℕ) (s : Faultless bs) where
+  i : Imaged bs
+  i = imaged bs s
 
-  -- the entry k is there
-  pub entry_there : (k : ℕ) → k < entity_count bs → entry_offset k + 4 ≤ length bs
-  entry_there k l = leb-true _ _ (entry_within bs i.listed k l)
+  -- the header, the place list and the nodes are there, and nothing more
+  pub full : length bs ≡ node_offset (entity_count bs) (node_count bs)
+  full = all_length bs i.noded i.listed i.headed i.ended
 
-  -- the node j is there
-  pub node_there : (j : ℕ) → j < node_count bs → node_offset (entity_count bs) j + 24 ≤ length bs
-  node_there j l = leb-true _ _ (node_within bs i.noded j l)
+  -- as many entities as the header announces
+  pub count_is : entity_count bs ≡ length (image_entities bs)
+  count_is = sym (entities_length (image_nodes bs) (place_entries bs) i.whole ∙ length_entries bs)
 
   -- entries rise, and lie below the number of nodes
   entries : Sound (node_count bs) (place_entries bs)
@@ -51,26 +54,29 @@ module _ (bs : List ℕ) (i : Imaged bs) where
   end_next : (k : ℕ) → k + 1 < entity_count bs → end_node bs k ≡ first_node bs (k + 1)
   end_next k l = cond-true _ (first_node bs (k + 1)) (node_count bs) (lt-ltb (k + 1) (entity_count bs) l)
 
-  pub end_last : (k : ℕ) → entity_count bs ≤ k + 1 → end_node bs k ≡ node_count bs
+  end_last : (k : ℕ) → entity_count bs ≤ k + 1 → end_node bs k ≡ node_count bs
   end_last k l = cond-false _ (first_node bs (k + 1)) (node_count bs) (le-ltb (k + 1) (entity_count bs) l)
 
-  pub first_before : (k : ℕ) → k < entity_count bs → first_node bs k < end_node bs k
+  first_before : (k : ℕ) → k < entity_count bs → first_node bs k < end_node bs k
   first_before k l =
       ⊎_elim
       (λ (m : k + 1 < entity_count bs). let e = end_next k m in let r = first_rises k m in omega arith)
       (λ (m : entity_count bs ≤ k + 1). let e = end_last k m in let b = first_below k l in omega arith)
       (cases_lt (k + 1) (entity_count bs))
 
-  pub end_within : (k : ℕ) → k < entity_count bs → end_node bs k ≤ node_count bs
+  end_within : (k : ℕ) → k < entity_count bs → end_node bs k ≤ node_count bs
   end_within k l =
       ⊎_elim
       (λ (m : k + 1 < entity_count bs). let e = end_next k m in let b = first_below (k + 1) m in omega arith)
       (λ (m : entity_count bs ≤ k + 1). let e = end_last k m in omega arith)
       (cases_lt (k + 1) (entity_count bs))
 
-  -- the nodes before an index up to the number of nodes are there
-  pub nodes_before : (j : ℕ) → 0 < entity_count bs → j ≤ node_count bs → node_offset (entity_count bs) j ≤ length bs
-  nodes_before j l m = let t = all_there bs i.noded i.listed l in omega arith
+  -- the run at a place that there is
+  pub run_of : (k first end : ℕ) → k < entity_count bs → first ≡ first_node bs k → end ≡ end_node bs k → RunOf bs k first end
+  run_of k first end l e f =
+      let b = first_before k l in
+      let w = end_within k l in
+      record { there = l; from = e; to = f; some = omega arith; within = omega arith }
 
   -- the end of the run k, by the entries
   end_is : (k : ℕ) → k < entity_count bs → end_at (length (image_nodes bs)) (place_entries bs) k ≡ end_node bs k
@@ -87,7 +93,7 @@ module _ (bs : List ℕ) (i : Imaged bs) where
       (cases_lt (k + 1) (entity_count bs))
 
   -- the run k has the nodes from its first to its end
-  pub run_is : (k : ℕ) → k < entity_count bs → run_at (image_nodes bs) (place_entries bs) k ≡ map (image_node bs) (range_with_len (first_node bs k) (end_node bs k - first_node bs k))
+  run_is : (k : ℕ) → k < entity_count bs → run_at (image_nodes bs) (place_entries bs) k ≡ map (image_node bs) (range_with_len (first_node bs k) (end_node bs k - first_node bs k))
   run_is k l =
       let w = nodes_whole bs i.noded in
       let b = first_before k l in
@@ -97,18 +103,28 @@ module _ (bs : List ℕ) (i : Imaged bs) where
       ∙ part_map_counting (image_node bs) (first_node bs k) (end_node bs k - first_node bs k) (whole_nodes bs) (omega arith))
 
   -- the uid of the run k is that of its first node
-  pub uid_is : (k : ℕ) → k < entity_count bs → head_uid (run_at (image_nodes bs) (place_entries bs) k) ≡ ((image_node bs (first_node bs k)).a, (image_node bs (first_node bs k)).b)
+  uid_is : (k : ℕ) → k < entity_count bs → head_uid (run_at (image_nodes bs) (place_entries bs) k) ≡ ((image_node bs (first_node bs k)).a, (image_node bs (first_node bs k)).b)
   uid_is k l =
       let b = first_before k l in
       let n : end_node bs k - first_node bs k ≡ suc (end_node bs k - first_node bs k - 1) = omega arith in
       ap head_uid (run_is k l ∙ ap (λ m. map (image_node bs) (range_with_len (first_node bs k) m)) n)
 
+  -- the node j is of a kind that there is
+  pub kind_known : (j offset : ℕ) (bytes : List ℕ) → j < node_count bs → offset ≡ node_offset (entity_count bs) j → bytes ≡ take 24 (drop offset bs) → Known (u32_at bytes 0)
+  kind_known j offset bytes l o b =
+      let n = length_nodes bs i.noded in
+      let k = kinds (image_nodes bs) (place_entries bs) (filled i) j (image_node bs 0) (omega arith) in
+      let is : (get_or (image_nodes bs) j (image_node bs 0)).kind ≡ u32_at bs offset = ap (λ (v : Node). v.kind) (node_is bs i.noded j (image_node bs 0) l) ∙ ap (u32_at bs) (sym o) in
+      let at : u32_at (take 24 (drop offset bs)) 0 ≡ u32_at bs offset = u32_of_part bs 24 offset 0 (omega arith) ∙ ap (u32_at bs) (omega arith) in
+      subst Known (is ∙ sym (ap (λ v. u32_at v 0) b ∙ at)) k
+
   -- the answers of the image
 
-  pub uid_told_is : (k : ℕ) (n : Node) → k < entity_count bs → n ≡ image_node bs (first_node bs k) → Ok (n.a, n.b) ≡ uid_answer (image_entities bs) k
-  uid_told_is k n l e =
+  pub uid_told_is : (k first end : ℕ) (n : Node) → RunOf bs k first end → n ≡ image_node bs first → Ok (n.a, n.b) ≡ uid_answer (image_entities bs) k
+  uid_told_is k first end n r e =
       let m = length_entries bs in
-      uid_there (image_nodes bs) (place_entries bs) i.whole k (n.a, n.b) (omega arith) (ap (λ (v : Node). (v.a, v.b)) e ∙ sym (uid_is k l))
+      let l = r.there in
+      uid_there (image_nodes bs) (place_entries bs) i.whole k (n.a, n.b) (omega arith) (ap (λ (v : Node). (v.a, v.b)) (e ∙ ap (image_node bs) r.from) ∙ sym (uid_is k l))
 
   pub uid_missing : (k : ℕ) → entity_count bs ≤ k → Err no_such_place ≡ uid_answer (image_entities bs) k
   uid_missing k l = let m = length_entries bs in uid_nowhere (image_nodes bs) (place_entries bs) i.whole k (omega arith)
@@ -116,32 +132,34 @@ module _ (bs : List ℕ) (i : Imaged bs) where
   pub load_missing : (k : ℕ) (buffer : List Node) → entity_count bs ≤ k → load_answer (image_entities bs) k buffer ≡ (Err no_such_place, buffer)
   load_missing k buffer l = let m = length_entries bs in load_nowhere (image_nodes bs) (place_entries bs) i.whole k buffer (omega arith)
 
-  -- a run that is there, by the nodes from its first to its end
-  module _ (k n : ℕ) (buffer : List Node) (l : k < entity_count bs) (is : n ≡ end_node bs k - first_node bs k) where
+  -- a run that is there, by its nodes
+  module _ (k first end : ℕ) (buffer : List Node) (r : RunOf bs k first end) where
     nodes_of_run : List Node
-    nodes_of_run = map (image_node bs) (range_with_len (first_node bs k) n)
+    nodes_of_run = map (image_node bs) (range_with_len first (end - first))
 
-    run_long : length nodes_of_run ≡ n
+    run_long : length nodes_of_run ≡ end - first
     unfolding nodes_of_run
-    run_long = length-map-range_with_len (image_node bs) (first_node bs k) n
+    run_long = length-map-range_with_len (image_node bs) first (end - first)
 
     load_is : load_answer (image_entities bs) k buffer ≡ loaded nodes_of_run buffer
     unfolding nodes_of_run
     load_is =
         let m = length_entries bs in
+        let l = r.there in
         load_there (image_nodes bs) (place_entries bs) i.whole k buffer (omega arith)
-        ∙ ap (λ run. loaded run buffer) (run_is k l ∙ ap (λ v. map (image_node bs) (range_with_len (first_node bs k) v)) (sym is))
+        ∙ ap (λ run. loaded run buffer) (run_is k l
+        ∙ (ap (λ v. map (image_node bs) (range_with_len v (end_node bs k - v))) (sym r.from) ∙ ap (λ v. map (image_node bs) (range_with_len first (v - first))) (sym r.to)))
 
-    pub load_short : length buffer < n → load_answer (image_entities bs) k buffer ≡ (Err (whole_call Limit entity_layer), buffer)
-    load_short h = let r = run_long in load_is ∙ cond-true _ _ _ (lt-ltb (length buffer) (length nodes_of_run) (omega arith))
+    pub load_short : length buffer < end - first → load_answer (image_entities bs) k buffer ≡ (Err (whole_call Limit entity_layer), buffer)
+    load_short h = let n = run_long in load_is ∙ cond-true _ _ _ (lt-ltb (length buffer) (length nodes_of_run) (omega arith))
 
-    pub load_full : n ≤ length buffer → load_answer (image_entities bs) k buffer ≡ (Ok n, map (image_node bs) (range_with_len (first_node bs k) n) ++ drop n buffer)
+    pub load_full : end - first ≤ length buffer → load_answer (image_entities bs) k buffer ≡ (Ok (end - first), map (image_node bs) (range_with_len first (end - first)) ++ drop (end - first) buffer)
     unfolding nodes_of_run
     load_full h =
-        let r = run_long in
+        let n = run_long in
         load_is
         ∙ (cond-false _ _ _ (le-ltb (length buffer) (length nodes_of_run) (omega arith))
-        ∙ ap (λ v. (Ok v, map (image_node bs) (range_with_len (first_node bs k) n) ++ drop v buffer)) r)
+        ∙ ap (λ v. (Ok v, map (image_node bs) (range_with_len first (end - first)) ++ drop v buffer)) n)
 
 -- one more node at its place in the buffer
 pub copy_more : (f : ℕ → Node) (a i : ℕ) (x d : Node) (b out : List Node) → i < length b → x ≡ f (a + i) → out ≡ map f (range_with_len a i) ++ drop i b
@@ -155,3 +173,8 @@ copy_more f a i x d b out h e q =
     ∙ ap (λ v. map f (range_with_len a i) ++ v ∷ drop (i + 1) b) e
     ∙ sym (append_assoc (map f (range_with_len a i)) (f (a + i) ∷ []) (drop (i + 1) b))
     ∙ ap (λ v. v ++ drop (i + 1) b) (sym m)
+
+-- every node at its place
+pub copy_all : (f : ℕ → Node) (a n m : ℕ) (b out : List Node) → length b ≤ n → n ≡ m → out ≡ map f (range_with_len a n) ++ drop n b → out ≡ map f (range_with_len a m)
+copy_all f a n m b out l e q =
+    q ∙ (ap (λ v. map f (range_with_len a n) ++ v) (drop_all n b l) ∙ (append-nil (map f (range_with_len a n)) ∙ ap (λ k. map f (range_with_len a k)) e))

@@ -1,2 +1,4 @@
-mod ImageFacts
+pub mod ImageFacts
+pub mod ListFacts
+pub mod Parts
 mod Telling

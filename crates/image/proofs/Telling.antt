@@ -1,20 +1,19 @@
 -- The faults in the runs of an image are the same whether its definition tells them or its header.
-use Rattle.std.proofs.Common.{◌≡◌, ℕ, zero, suc, ◌+◌, ◌-◌, ◌<◌, ◌≤◌, ◌||◌, cond, List, [], ◌∷◌, ◌++◌, length, get_or, Ok, Err, Result, sym, refl, ap, ◌∙◌, subst, arith}
+use Rattle.std.proofs.Common.{◌≡◌, ℕ, zero, suc, ◌+◌, ◌-◌, ◌<◌, ◌≤◌, ◌||◌, cond, List, [], ◌∷◌, ◌++◌, length, Ok, Err, Result, refl, ap, ◌∙◌, arith}
 use Rattle.std.specs.Prelude.{◌==◌}
 use Rattle.model.specs.declared.node.Node.{Node}
 use Rattle.model.specs.declared.fault.Fault.{Fault}
 use Rattle.model.specs.declared.fault.Refusal.{Refusal}
 use Rattle.model.specs.declared.fault.Refusal.TheVariants.{Malformed}
 use Rattle.model.specs.declared.fault.Layer.TheVariants.{Image}
-use Rattle.model.specs.Bytes.{u32_at}
 use Rattle.model.specs.Faults.{placed}
 use Rattle.model.specs.Reading.{Refused}
 use Rattle.model.specs.Slots.{uid_below}
 use Rattle.model.specs.Entities.{Entity, head_uid, read_entity}
 use Rattle.model.specs.Stores.{collected, run_at, run_fault, uid_fault, faults_at, run_faults}
-use Rattle.model.specs.Images.{entity_count, entry_offset, node_offset, image_nodes, place_entries, at_offset}
+use Rattle.model.specs.Images.{entity_count, node_offset, image_nodes, place_entries, at_offset}
 use Rattle.laws.proofs.ReadBytes.{length_entries, entry_is}
-use Rattle.store.specs.Entries.{told, AllBelow}
+use Rattle.store.specs.Entries.{told}
 use Rattle.image.specs.Headers.{by_offset}
 
 -- what two functions give at some numbers is the same if it is at each
@@ -43,15 +42,3 @@ told_alike bs =
     collected_same (faults_at (told (by_offset (entity_count bs)) fs) (image_nodes bs) fs) (faults_at (at_offset bs) (image_nodes bs) fs) (length fs) 0
     (λ k l m. faults_same (told (by_offset (entity_count bs)) fs) (at_offset bs) (image_nodes bs) fs k
     (λ p r. ap (λ v. placed r Image (node_offset (entity_count bs) (v + p - 1))) (entry_is bs k (omega arith))))
-
--- an entry has four bytes
-pub entries_below : (bs : List ℕ) → ((i : ℕ) → get_or bs i 0 < 256) → AllBelow 4294967296 (place_entries bs)
-entries_below bs small k l =
-    let n = length_entries bs in
-    let p = entry_offset k in
-    let a = small p in
-    let b = small (p + 1) in
-    let c = small (p + 2) in
-    let d = small (p + 3) in
-    let f : u32_at bs p < 4294967296 = omega arith in
-    subst (λ v. v < 4294967296) (sym (entry_is bs k (omega arith))) f

@@ -1,5 +1,5 @@
 -- Bytes of which no fault is found.
-use Rattle.std.specs.Prelude.{◌≡◌, ℕ, ◌+◌, false, cond, List, is_some, Some, None, Option, nat_lt, refl}
+use Rattle.std.specs.Prelude.{◌≡◌, ℕ, ◌+◌, ◌<◌, ◌≤◌, false, cond, List, is_some, Some, None, Option, nat_lt, refl}
 use Rattle.std.proofs.Common.{arith}
 use Rattle.model.specs.declared.fault.Fault.{Fault}
 use Rattle.model.specs.Stores.{Lawful}
@@ -14,6 +14,14 @@ Faultless bs = is_some (image_fault bs) ≡ false
 -- the index of the node behind the run k
 abbrev pub end_node : List ℕ → ℕ → ℕ
 end_node bs k = cond (nat_lt (k + 1) (entity_count bs)) (first_node bs (k + 1)) (node_count bs)
+
+-- the nodes of the run at a place that there is: from its first node, with no run empty, to the next run or the last node
+pub record RunOf (bs : List ℕ) (place first end : ℕ) : Type 0 where
+  pub there : place < entity_count bs
+  pub from : first ≡ first_node bs place
+  pub to : end ≡ end_node bs place
+  pub some : first < end
+  pub within : end ≤ node_count bs
 
 -- nothing was found
 pub nothing_found : (o : Option Fault) → is_some o ≡ false → o ≡ None

@@ -10,11 +10,11 @@ viewed kind bytes offset = record { kind = kind; bytes = bytes; offset = offset 
 
 -- each case stands for a kind, with its bytes and its offset
 abbrev pub shown : View → images.View
-shown (Bool p o) = viewed 1 p.now o
-shown (Long p o) = viewed 2 p.now o
-shown (String p o) = viewed 3 p.now o
-shown (Uid p o) = viewed 4 p.now o
-shown (Set p o) = viewed 5 p.now o
-shown (Record p o) = viewed 6 p.now o
-shown (Extension p o) = viewed 7 p.now o
-shown (Entity p o) = viewed 9 p.now o
+shown (Bool n) = viewed 1 n.bytes.now n.offset
+shown (Long n) = viewed 2 n.bytes.now n.offset
+shown (String n) = viewed 3 n.bytes.now n.offset
+shown (Uid n) = viewed 4 n.bytes.now n.offset
+shown (Set n) = viewed 5 n.bytes.now n.offset
+shown (Record n) = viewed 6 n.bytes.now n.offset
+shown (Extension n) = viewed 7 n.bytes.now n.offset
+shown (Entity n) = viewed 9 n.bytes.now n.offset

@@ -1,66 +1,17 @@
 // Everything that has to hold of the bytes of an image.
-ghost use Rattle.std.specs.Prelude.{◌≡◌, ℕ, ◌<◌, ◌≤◌, map, length, IfOk, IfErr, slice_index};
-ghost use Rattle.std.specs.List.{range_with_len};
-ghost use Rattle.model.specs.Checks.{then, after};
-ghost use Rattle.model.specs.Faults.{least, least_with};
-ghost use Rattle.model.specs.Images.{header as header_of, place_list, first_node, node_offset, fault_of, image_nodes, whole_nodes, node_faults, image_fault};
-ghost use Rattle.image.specs.Headers.{announced, Listed};
-ghost use Rattle.image.specs.Opens.{ListWhole};
+ghost use Rattle.std.specs.Prelude.{◌≡◌, ◌<◌, ◌≤◌, length, IfOk, OnOk, IfErr, None};
+ghost use Rattle.model.specs.Faults.{least_with};
+ghost use Rattle.model.specs.Images.{node_offset, fault_of, image_nodes, place_entries, whole_nodes, image_fault, image_entities};
+ghost use Rattle.image.specs.Opens.{BytesOf, ForReason};
 
-use crate::bytes::{node_at, u32_at};
-use crate::frame::{Header, check_counts, check_end, check_nodes, check_place_list};
+use crate::error::ImageError;
+use crate::layout::{Layout, WholeList};
 use model::fault::Fault;
 use model::node::Node;
 use std::alloc::{AllocError, Global};
 use store::runs::Runs;
 
-// The header of an image, where it and the place list are as they have to be.
-fn check_list(bytes: &[u8]) -> Result<Header, Fault>
-    ensures { result ≡ after (then (header_of bytes.now) (place_list bytes.now (announced bytes.now).entities (announced bytes.now).nodes)) (announced bytes.now) }
-{
-    let header = Header::read(bytes)?;
-    check_place_list(bytes, header)?;
-    Ok(header)
-}
-
-// The entries of the place list, which are all there.
-fn entries(heap: Global, bytes: &[u8], header: Header) -> Result<Vec<usize>, AllocError>
-    requires { Listed bytes.now header.entities }
-    ensures { IfOk result (λ v. v.items ≡ map (first_node bytes.now) (range_with_len 0 header.entities)) }
-{
-    let mut firsts = Vec::new(heap);
-    for k in 0..header.entities {
-        firsts.push(u32_at(bytes, header.entry_offset(k)) as usize)?;
-    }
-    Ok(firsts)
-}
-
-// How many of the announced nodes are wholly there.
-fn whole_nodes(bytes: &[u8], header: Header) -> u32
-    ensures is { header ≡ announced bytes.now → result ≡ whole_nodes bytes.now }
-    ensures there { 0 < result → node_offset header.entities result ≤ length bytes.now }
-{
-    let there = bytes.len().saturating_sub(header.node_offset(0)) / 24;
-    if there < header.nodes as usize {
-        there as u32
-    } else {
-        header.nodes
-    }
-}
-
-// The nodes that are wholly there.
-fn nodes(heap: Global, bytes: &[u8], header: Header) -> Result<Vec<Node>, AllocError>
-    requires { header ≡ announced bytes.now }
-    ensures { IfOk result (λ v. v.items ≡ image_nodes bytes.now) }
-{
-    let mut nodes = Vec::new(heap);
-    for j in 0..whole_nodes(bytes, header) {
-        nodes.push(node_at(bytes, header.node_offset(j)))?;
-    }
-    Ok(nodes)
-}
-
-// The least fault so far, and that of a check.
+// The least fault so far, and that of a check: an Option, since more may be found.
 fn keep_checked(kept: Option<Fault>, checked: Result<(), Fault>) -> Option<Fault>
     ensures { result ≡ least_with kept (fault_of checked) }
 {
@@ -70,32 +21,62 @@ fn keep_checked(kept: Option<Fault>, checked: Result<(), Fault>) -> Option<Fault
     }
 }
 
-// The least fault behind a whole place list: of the nodes, the end, the counts and the runs.
-fn node_fault(heap: Global, bytes: &[u8], header: Header) -> Result<Option<Fault>, AllocError>
-    requires { (header ≡ announced bytes.now) × (Listed bytes.now header.entities) }
-    ensures { IfOk result (λ f. f ≡ least (node_faults bytes.now)) }
-{
-    let firsts = entries(heap, bytes, header)?;
-    let nodes = nodes(heap, bytes, header)?;
-    let least = keep_checked(None, check_nodes(bytes, header));
-    let least = keep_checked(least, check_end(bytes, header));
-    let least = keep_checked(least, check_counts(header));
-    let runs = Runs {
-        nodes: nodes.as_slice(),
-        firsts: firsts.as_slice(),
-    };
-    Ok(runs.keep_faults(&header, least))
+impl Layout<'_> {
+    // How many of the announced nodes are wholly there.
+    fn whole_nodes(&self) -> u32
+        ensures is { result ≡ whole_nodes self.now.bytes.now }
+        ensures there { 0 < result → node_offset self.now.header.entities result ≤ length self.now.bytes.now }
+    {
+        let there = self.bytes.len().saturating_sub(self.header.node_offset(0)) / 24;
+        there.min(self.header.nodes as usize) as u32
+    }
+
+    // The nodes that are wholly there.
+    fn nodes(&self, heap: Global) -> Result<Vec<Node>, AllocError>
+        ensures { IfOk result (λ v. v.items ≡ image_nodes self.now.bytes.now) }
+    {
+        (0..self.whole_nodes()).map(|j| self.node(j)).collect(heap)
+    }
 }
 
-// What opening an image refuses: a broken header or place list stands alone, else the least fault. Beside it stands what a
-// caller wants to know of the same bytes, that each is below 256.
-pub(crate) fn image_fault(heap: Global, bytes: &[u8]) -> Result<Option<Fault>, AllocError>
-    ensures is { IfOk result (λ f. f ≡ image_fault bytes.now) }
-    ensures wanting { IfErr result (λ _. ListWhole bytes.now) }
-    ensures small { (i : ℕ) → slice_index bytes.now i < 256 }
-{
-    match check_list(bytes) {
-        Ok(header) => node_fault(heap, bytes, header),
-        Err(fault) => Ok(Some(fault)),
+impl WholeList<'_> {
+    // The entries of the place list.
+    fn entries(&self, heap: Global) -> Result<Vec<usize>, AllocError>
+        ensures { IfOk result (λ v. v.items ≡ place_entries self.now.layout.bytes.now) }
+    {
+        (0..self.layout.header.entities)
+            .map(|k| self.layout.first(k) as usize)
+            .collect(heap)
     }
+
+    // Behind a whole place list the least fault stands: of the nodes, the end, the counts and the runs. It takes the list by
+    // value, since behind a `&` the range of the header's numbers would not be known.
+    fn check(self, heap: Global) -> Result<(), ImageError>
+        ensures ok { OnOk result (image_fault self.entry.layout.bytes.now ≡ None) }
+        ensures err { IfErr result (λ error. ForReason error self.entry.layout.bytes.now) }
+    {
+        let layout = self.layout;
+        let header = layout.header;
+        let firsts = self.entries(heap)?;
+        let nodes = layout.nodes(heap)?;
+        let least = keep_checked(None, layout.check_nodes());
+        let least = keep_checked(least, layout.check_end());
+        let least = keep_checked(least, layout.check_counts());
+        let runs = Runs {
+            nodes: nodes.as_slice(),
+            firsts: firsts.as_slice(),
+        };
+        match runs.keep_faults(&header, least) {
+            None => Ok(()),
+            Some(fault) => Err(ImageError::Fault(fault)),
+        }
+    }
+}
+
+// What opening an image refuses: a broken header or place list stands alone, else the least fault.
+pub(crate) fn check_image(heap: Global, bytes: &[u8]) -> Result<(), ImageError>
+    ensures ok { OnOk result ((image_fault bytes.now ≡ None) × BytesOf bytes.now (image_entities bytes.now)) }
+    ensures err { IfErr result (λ error. ForReason error bytes.now) }
+{
+    WholeList::read(bytes)?.check(heap)
 }

@@ -1,12 +1,13 @@
-ghost use Rattle.std.specs.Prelude.{◌≡◌, ◌+◌, ◌*◌, Ok, Err};
+ghost use Rattle.std.specs.Prelude.{◌≡◌};
 ghost use Rattle.model.specs.Bytes.{within, u32_at, node_at, read};
 ghost use Rattle.model.specs.Checks.{after};
-ghost use Rattle.model.specs.Images.{laid_out, header as header_of, entry as entry_of, place_list, entry_offset, first_node, numbered, node_offset, node_there, nodes_there, ends, counts, body as body_of, frame as frame_of};
+ghost use Rattle.model.specs.Faults.{placed};
+ghost use Rattle.model.specs.Images.{laid_out, header as header_of, entry_offset, first_node, numbered, node_offset, frame as frame_of};
 ghost use Rattle.image.specs.Headers.{announced};
 
-use crate::bytes::*;
-use model::fault::*;
-use model::limits;
+use crate::bytes::{read_node, read_u32};
+use crate::layout::WholeList;
+use model::fault::{Fault, Layer, Refusal};
 use model::node::Node;
 
 // What the header of an image announces.
@@ -16,25 +17,29 @@ pub struct Header {
     pub nodes: u32,
 }
 
+// The fault of a layout that is broken at an offset.
+fn malformed(offset: usize) -> Fault
+    ensures { result ≡ placed Refusal.Malformed Layer.Image offset }
+{
+    Fault::at(Refusal::Malformed, Layer::Image, offset)
+}
+
 // What must hold at an offset, else the layout is broken there.
-fn require(holds: bool, offset: usize) -> Result<(), Fault>
+pub(crate) fn require(holds: bool, offset: usize) -> Result<(), Fault>
     ensures { result ≡ laid_out holds offset }
 {
     if holds {
         Ok(())
     } else {
-        Err(Fault::at(Refusal::Malformed, Layer::Image, offset))
+        Err(malformed(offset))
     }
 }
 
 // The u32 of a header field or list entry, which has to be there.
-fn field(bytes: &[u8], offset: usize) -> Result<u32, Fault>
+pub(crate) fn field(bytes: &[u8], offset: usize) -> Result<u32, Fault>
     ensures { result ≡ after (laid_out (within bytes.now offset 4) offset) (u32_at bytes.now offset) }
 {
-    match read_u32(bytes, offset) {
-        Some(n) => Ok(n),
-        None => Err(Fault::at(Refusal::Malformed, Layer::Image, offset)),
-    }
+    read_u32(bytes, offset).ok_or(malformed(offset))
 }
 
 impl Header {
@@ -86,84 +91,11 @@ impl Header {
     }
 }
 
-// The entry `k` of the place list: 0 at first and then above the one before, and below the number of nodes.
-fn check_entry(bytes: &[u8], header: Header, k: u32) -> Result<(), Fault>
-    ensures { result ≡ entry_of bytes.now header.nodes k }
-{
-    let offset = header.entry_offset(k);
-    let first = field(bytes, offset)?;
-    let ascends = if k == 0 {
-        first == 0
-    } else {
-        field(bytes, offset - 4)? < first
-    };
-    require(ascends, offset)?;
-    require(first < header.nodes, offset)
-}
-
-pub(crate) fn check_place_list(bytes: &[u8], header: Header) -> Result<(), Fault>
-    ensures { result ≡ place_list bytes.now header.entities header.nodes }
-{
-    for k in 0..header.entities {
-        check_entry(bytes, header, k)?;
-    }
-    Ok(())
-}
-
-// The node `j` is there, and there is an entity that it can belong to.
-fn check_node(bytes: &[u8], header: Header, j: u32) -> Result<(), Fault>
-    ensures { result ≡ node_there bytes.now header.entities j }
-{
-    let offset = header.node_offset(j);
-    require(
-        header.entities > 0 && read_node(bytes, offset).is_some(),
-        offset,
-    )
-}
-
-pub(crate) fn check_nodes(bytes: &[u8], header: Header) -> Result<(), Fault>
-    ensures { result ≡ nodes_there bytes.now header.entities header.nodes }
-{
-    for j in 0..header.nodes {
-        check_node(bytes, header, j)?;
-    }
-    Ok(())
-}
-
-// Nothing follows the last node.
-pub(crate) fn check_end(bytes: &[u8], header: Header) -> Result<(), Fault>
-    ensures { result ≡ ends bytes.now header.entities header.nodes }
-{
-    let end = header.node_offset(header.nodes);
-    require(bytes.len() <= end, end)
-}
-
-pub(crate) fn check_counts(header: Header) -> Result<(), Fault>
-    ensures { result ≡ counts header.entities header.nodes }
-{
-    if header.entities > limits::STORE_ENTITIES {
-        return Err(Fault::at(Refusal::Limit, Layer::Image, 0));
-    }
-    if header.nodes > limits::STORE_NODES {
-        return Err(Fault::at(Refusal::Limit, Layer::Image, 4));
-    }
-    Ok(())
-}
-
-fn check_body(bytes: &[u8], header: Header) -> Result<(), Fault>
-    ensures { result ≡ body_of bytes.now header.entities header.nodes }
-{
-    check_place_list(bytes, header)?;
-    check_nodes(bytes, header)?;
-    check_end(bytes, header)?;
-    check_counts(header)
-}
-
 // The header of an image whose frame is whole: header, place list and nodes are there, nothing more, and within the limits.
 pub fn check_frame(bytes: &[u8]) -> Result<Header, Fault>
     ensures { result ≡ after (frame_of bytes.now) (announced bytes.now) }
 {
-    let header = Header::read(bytes)?;
-    check_body(bytes, header)?;
-    Ok(header)
+    let WholeList { layout } = WholeList::read(bytes)?;
+    layout.check_rest()?;
+    Ok(layout.header)
 }

@@ -7,6 +7,7 @@ pub mod error;
 pub mod frame;
 pub mod image;
 pub mod image_store;
+pub(crate) mod layout;
 pub(crate) mod offsets;
 pub mod open;
 pub(crate) mod reads;

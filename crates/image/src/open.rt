@@ -2,7 +2,7 @@ ghost use Rattle.std.specs.Prelude.{◌≡◌, IfOk, IfErr, None};
 ghost use Rattle.model.specs.Images.{image_fault, image_entities};
 ghost use Rattle.image.specs.Opens.{BytesOf, ForReason};
 
-use crate::check::image_fault;
+use crate::check::check_image;
 use crate::error::ImageError;
 use crate::image::Image;
 use std::alloc::Global;
@@ -20,18 +20,9 @@ impl Image {
         ensures opened { IfOk result (λ i. (i.bytes ≡ bytes) × (image_fault bytes.items ≡ None) × BytesOf bytes.items (image_entities bytes.items)) }
         ensures refused { IfErr result (λ x. (x.bytes ≡ bytes) × ForReason x.error bytes.items) }
     {
-        let Ok(found) = image_fault(heap, bytes.as_slice()) else {
-            return Err(RefusedImage {
-                bytes,
-                error: ImageError::NoMemory,
-            });
-        };
-        match found {
-            None => Ok(Image { bytes }),
-            Some(fault) => Err(RefusedImage {
-                bytes,
-                error: ImageError::Fault(fault),
-            }),
+        match check_image(heap, bytes.as_slice()) {
+            Ok(()) => Ok(Image { bytes }),
+            Err(error) => Err(RefusedImage { bytes, error }),
         }
     }
 
@@ -47,7 +38,7 @@ impl Image {
 #[cfg(test)]
 mod tests {
     use super::*;
-    use crate::view::View;
+    use crate::view::{NodeBytes, View};
     use model::node::Node;
     use std::test::Fail;
     use store::store::Store;
@@ -82,8 +73,18 @@ mod tests {
         assert!(rt; matches!(image.uid(0), Ok((2, 1))));
         assert!(rt; matches!(image.load(0, &mut buffer), Ok(2)));
         assert_eq!(rt; [buffer[0].kind, buffer[1].kind, buffer[2].kind], [9, 6, 0]);
-        assert!(rt; matches!(image.view(0), Some(View::Entity { offset: 20, .. })));
-        assert!(rt; matches!(image.view(1), Some(View::Record { offset: 44, .. })));
+        assert!(rt;
+            matches!(
+                image.view(0),
+                Some(View::Entity(NodeBytes { offset: 20, .. }))
+            )
+        );
+        assert!(rt;
+            matches!(
+                image.view(1),
+                Some(View::Record(NodeBytes { offset: 44, .. }))
+            )
+        );
         assert!(rt; image.view(2).is_none());
         assert_eq!(rt; image.into_bytes().as_slice(), BARE.as_slice());
         Ok(())

@@ -1,107 +1,102 @@
 // What an image answers, over its bytes.
-ghost use Rattle.std.specs.Prelude.{◌≡◌, ◌+◌, ◌-◌, ◌<◌, ◌≤◌, ◌++◌, map, length, drop};
+ghost use Rattle.std.specs.Prelude.{◌≡◌, ◌+◌, ◌-◌, ◌<◌, ◌≤◌, map, length, IfOk, IfErr};
 ghost use Rattle.std.specs.List.{range_with_len};
-ghost use Rattle.model.specs.Stores.{uid_answer, load_answer};
-ghost use Rattle.model.specs.Images.{entity_count, first_node, node_offset, image_node, image_entities};
-ghost use Rattle.image.specs.Faultless.{Faultless, end_node};
-ghost use Rattle.image.specs.Headers.{announced};
+ghost use Rattle.model.specs.Stores.{no_such_place, uid_answer, load_answer};
+ghost use Rattle.model.specs.Images.{entity_count, node_count, node_offset, image_node, image_entities};
+ghost use Rattle.image.specs.Faultless.{Faultless, end_node, RunOf};
 
-use crate::bytes::{node_at, u32_at};
 use crate::frame::Header;
 use crate::image::Image;
+use crate::layout::Layout;
 use model::fault::{Fault, Layer, Refusal};
 use model::node::{Node, Uid};
+use std::ops::Range;
+
+// The bytes of an image, of which no fault was found.
+#[derive(Clone, Copy)]
+pub(crate) struct Reader<'i> {
+    pub(crate) layout: Layout<'i>,
+    ghost sound: { Faultless layout.bytes.now },
+    // the place list and the nodes are there, and nothing more
+    ghost full: { length layout.bytes.now ≡ node_offset layout.header.entities layout.header.nodes },
+}
 
 impl Image {
-    // The bytes, with what is known of them.
-    pub(crate) fn as_slice(&self) -> &[u8]
-        ensures value { result.now ≡ self.now.bytes.items }
-        ensures sound { Faultless result.now }
+    // What reads the image.
+    pub(crate) fn reader(&self) -> Reader<'_>
+        ensures { result.layout.bytes.now ≡ self.now.bytes.items }
     {
-        self.bytes.as_slice()
+        Reader {
+            layout: Layout::new(self.bytes.as_slice()),
+        }
     }
 }
 
-// The header of an image.
-pub(crate) fn header_in(bytes: &[u8]) -> Header
-    requires { Faultless bytes.now }
-    ensures { result ≡ announced bytes.now }
-{
-    Header {
-        entities: u32_at(bytes, 0),
-        nodes: u32_at(bytes, 4),
+impl Reader<'_> {
+    // How many entities there are.
+    #[tactic(auto, using(crate::proofs::ImageFacts::count_is))]
+    pub(crate) fn count(&self) -> usize
+        ensures { result ≡ length (image_entities self.now.layout.bytes.now) }
+    {
+        self.layout.header.entities as usize
     }
-}
 
-pub(crate) fn count_in(bytes: &[u8]) -> usize
-    requires { Faultless bytes.now }
-    ensures { result ≡ length (image_entities bytes.now) }
-{
-    header_in(bytes).entities as usize
-}
-
-// The index of the first node of the run `k`.
-fn first_in(bytes: &[u8], k: u32) -> u32
-    requires { (Faultless bytes.now) × (k < entity_count bytes.now) }
-    ensures is { result ≡ first_node bytes.now k }
-    ensures before { result < end_node bytes.now k }
-    ensures there { node_offset (entity_count bytes.now) result + 24 ≤ length bytes.now }
-{
-    u32_at(bytes, header_in(bytes).entry_offset(k))
-}
-
-// The index of the node behind the run `k`.
-fn end_in(bytes: &[u8], k: u32) -> u32
-    requires { (Faultless bytes.now) × (k < entity_count bytes.now) }
-    ensures is { result ≡ end_node bytes.now k }
-    ensures there { node_offset (entity_count bytes.now) result ≤ length bytes.now }
-{
-    let header = header_in(bytes);
-    if k + 1 < header.entities {
-        first_in(bytes, k + 1)
-    } else {
-        header.nodes
+    // The index of the node behind the run `k`: where the next begins, or the end of the nodes.
+    fn end(&self, k: u32) -> u32
+        requires { k < entity_count self.now.layout.bytes.now }
+        ensures { result ≡ end_node self.now.layout.bytes.now k }
+    {
+        let Header { entities, nodes } = self.layout.header;
+        if k + 1 < entities {
+            self.layout.first(k + 1)
+        } else {
+            nodes
+        }
     }
-}
 
-pub(crate) fn uid_in(bytes: &[u8], place: usize) -> Result<Uid, Fault>
-    requires { Faultless bytes.now }
-    ensures { result ≡ uid_answer (image_entities bytes.now) place }
-{
-    let header = header_in(bytes);
-    if place >= header.entities as usize {
-        return Err(Fault::whole_call(Refusal::NotStored, Layer::Entity));
+    // The indexes of the nodes of the run at a place, where there is such a place.
+    fn run(&self, place: usize) -> Result<Range<u32>, Fault>
+        ensures ok { IfOk result (λ run. RunOf self.now.layout.bytes.now place run.start run.end) }
+        ensures err { IfErr result (λ fault. (entity_count self.now.layout.bytes.now ≤ place) × (fault ≡ no_such_place)) }
+    {
+        if place >= self.layout.header.entities as usize {
+            return Err(Fault::whole_call(Refusal::NotStored, Layer::Entity));
+        }
+        let k = place as u32;
+        Ok(self.layout.first(k)..self.end(k))
     }
-    let first = first_in(bytes, place as u32);
-    let head = node_at(bytes, header.node_offset(first));
-    Ok((head.a, head.b))
-}
 
-// The nodes from `first` to `end`, at the front of the buffer.
-fn copy_nodes(bytes: &[u8], first: u32, end: u32, buffer: &mut [Node])
-    requires { (Faultless bytes.now) × ((first ≤ end) × ((node_offset (entity_count bytes.now) end ≤ length bytes.now) × (end ≤ first + length buffer.old))) }
-    ensures { buffer.new ≡ map (image_node bytes.now) (range_with_len first (end - first)) ++ drop (end - first) buffer.old }
-{
-    let header = header_in(bytes);
-    for i in 0..end - first {
-        buffer[i as usize] = node_at(bytes, header.node_offset(first + i));
+    // The uid of the entity at a place.
+    pub(crate) fn uid(&self, place: usize) -> Result<Uid, Fault>
+        ensures { result ≡ uid_answer (image_entities self.now.layout.bytes.now) place }
+    {
+        let run = self.run(place)?;
+        let head = self.layout.node(run.start);
+        Ok((head.a, head.b))
     }
-}
 
-pub(crate) fn load_in(bytes: &[u8], place: usize, buffer: &mut [Node]) -> Result<usize, Fault>
-    requires { Faultless bytes.now }
-    ensures answer { result ≡ (load_answer (image_entities bytes.now) place buffer.old).0 }
-    ensures written { buffer.new ≡ (load_answer (image_entities bytes.now) place buffer.old).1 }
-{
-    if place >= header_in(bytes).entities as usize {
-        return Err(Fault::whole_call(Refusal::NotStored, Layer::Entity));
+    // The nodes of these indexes, for which there is exactly room. (Of what a loop over `iter_mut().zip(run)` writes, nothing
+    // is known.)
+    fn copy(&self, run: Range<u32>, room: &mut [Node])
+        requires { (run.end ≤ node_count self.now.layout.bytes.now) × (run.start + length room.old ≡ run.end) }
+        ensures { room.new ≡ map (image_node self.now.layout.bytes.now) (range_with_len run.start (run.end - run.start)) }
+    {
+        for (i, node) in room.iter_mut().enumerate() {
+            *node = self.layout.node(run.start + i as u32);
+        }
     }
-    let first = first_in(bytes, place as u32);
-    let end = end_in(bytes, place as u32);
-    let length = (end - first) as usize;
-    if buffer.len() < length {
-        return Err(Fault::whole_call(Refusal::Limit, Layer::Entity));
+
+    // Writes the run of the entity at a place to the front of the buffer; its length.
+    pub(crate) fn load(&self, place: usize, buffer: &mut [Node]) -> Result<usize, Fault>
+        ensures answer { result ≡ (load_answer (image_entities self.now.layout.bytes.now) place buffer.old).0 }
+        ensures written { buffer.new ≡ (load_answer (image_entities self.now.layout.bytes.now) place buffer.old).1 }
+    {
+        let run = self.run(place)?;
+        let length = (run.end - run.start) as usize;
+        if buffer.len() < length {
+            return Err(Fault::whole_call(Refusal::Limit, Layer::Entity));
+        }
+        self.copy(run, &mut buffer[..length]);
+        Ok(length)
     }
-    copy_nodes(bytes, first, end, buffer);
-    Ok(length)
 }

@@ -1,65 +1,70 @@
-ghost use Rattle.std.specs.Prelude.{◌≡◌, ◌+◌, ◌≤◌, length, take, drop};
+ghost use Rattle.std.specs.Prelude.{◌≡◌};
+ghost use Rattle.model.specs.Bytes.{u32_at};
 ghost use Rattle.model.specs.Kinds.{Known};
 ghost use Rattle.model.specs.Options.{mapped};
 ghost use Rattle.model.specs.Images.{image_view};
-ghost use Rattle.image.specs.Faultless.{Faultless};
 ghost use Rattle.image.specs.Views.{shown, viewed};
 
-use crate::bytes::u32_at;
+use crate::bytes::{chunk, u32_at};
 use crate::image::Image;
-use crate::reads::header_in;
+use crate::layout::Layout;
+use crate::reads::Reader;
 use model::kind::ValueKind;
 
-// A node of an image as what it is: its 24 bytes, and the offset at which they stand.
+// The 24 bytes of a node of an image, and the offset at which they stand.
+#[derive(Clone, Copy)]
+pub struct NodeBytes<'i> {
+    pub bytes: &'i [u8; 24],
+    pub offset: usize,
+}
+
+// A node of an image as what it is.
 #[derive(Clone, Copy)]
 pub enum View<'i> {
-    Bool { bytes: &'i [u8; 24], offset: usize },
-    Long { bytes: &'i [u8; 24], offset: usize },
-    String { bytes: &'i [u8; 24], offset: usize },
-    Uid { bytes: &'i [u8; 24], offset: usize },
-    Set { bytes: &'i [u8; 24], offset: usize },
-    Record { bytes: &'i [u8; 24], offset: usize },
-    Extension { bytes: &'i [u8; 24], offset: usize },
+    Bool(NodeBytes<'i>),
+    Long(NodeBytes<'i>),
+    String(NodeBytes<'i>),
+    Uid(NodeBytes<'i>),
+    Set(NodeBytes<'i>),
+    Record(NodeBytes<'i>),
+    Extension(NodeBytes<'i>),
     // the head of an entity
-    Entity { bytes: &'i [u8; 24], offset: usize },
+    Entity(NodeBytes<'i>),
 }
 
-// The 24 bytes at `at`.
-fn chunk(bytes: &[u8], at: usize) -> &[u8; 24]
-    requires { at + 24 ≤ length bytes.now }
-    ensures { result.now ≡ take 24 (drop at bytes.now) }
-{
-    bytes[at..].first_chunk::<24>().unwrap()
-}
-
-// The view of a node of this kind.
-fn view_of(kind: u32, bytes: &[u8; 24], offset: usize) -> View<'_>
-    requires { Known kind }
-    ensures { shown result ≡ viewed kind bytes.now offset }
-{
-    match ValueKind::try_from(kind) {
-        Ok(ValueKind::Bool) => View::Bool { bytes, offset },
-        Ok(ValueKind::Long) => View::Long { bytes, offset },
-        Ok(ValueKind::String) => View::String { bytes, offset },
-        Ok(ValueKind::Uid) => View::Uid { bytes, offset },
-        Ok(ValueKind::Set) => View::Set { bytes, offset },
-        Ok(ValueKind::Record) => View::Record { bytes, offset },
-        Ok(ValueKind::Extension) => View::Extension { bytes, offset },
-        Err(_) => View::Entity { bytes, offset },
+impl<'i> NodeBytes<'i> {
+    // The node by its kind.
+    fn view(self) -> View<'i>
+        requires { Known (u32_at self.bytes.now 0) }
+        ensures { shown result ≡ viewed (u32_at self.entry.bytes.now 0) self.entry.bytes.now self.entry.offset }
+    {
+        let bytes = self.bytes;
+        match ValueKind::try_from(u32_at(bytes, 0)) {
+            Ok(ValueKind::Bool) => View::Bool(self),
+            Ok(ValueKind::Long) => View::Long(self),
+            Ok(ValueKind::String) => View::String(self),
+            Ok(ValueKind::Uid) => View::Uid(self),
+            Ok(ValueKind::Set) => View::Set(self),
+            Ok(ValueKind::Record) => View::Record(self),
+            Ok(ValueKind::Extension) => View::Extension(self),
+            Err(_) => View::Entity(self),
+        }
     }
 }
 
-// The node `j` of an image, where there is one.
-fn view_in(image: &[u8], j: usize) -> Option<View<'_>>
-    requires { Faultless image.now }
-    ensures { mapped shown result ≡ image_view image.now j }
-{
-    let header = header_in(image);
-    if j >= header.nodes as usize {
-        return None;
+impl<'i> Reader<'i> {
+    // The node `j`, where there is one.
+    fn view(&self, j: usize) -> Option<View<'i>>
+        ensures { mapped shown result ≡ image_view self.now.layout.bytes.now j }
+    {
+        let Layout { bytes, header } = self.layout;
+        if j >= header.nodes as usize {
+            return None;
+        }
+        let offset = header.node_offset(j as u32);
+        let bytes = chunk(bytes, offset).unwrap();
+        Some(NodeBytes { bytes, offset }.view())
     }
-    let offset = header.node_offset(j as u32);
-    Some(view_of(u32_at(image, offset), chunk(image, offset), offset))
 }
 
 impl Image {
@@ -67,6 +72,6 @@ impl Image {
     pub fn view(&self, j: usize) -> Option<View<'_>>
         ensures { mapped shown result ≡ image_view self.now.bytes.items j }
     {
-        view_in(self.as_slice(), j)
+        self.reader().view(j)
     }
 }

@@ -117,7 +117,8 @@ impl Fault {
         self.min(other)
     }
 
-    // The least fault so far, and one more.
+    // The least fault so far, and one more. It is an Option and no Result, since it is no answer yet: a check that ends
+    // answers with a Result.
     pub fn keep_least(kept: Option<Fault>, fault: Fault) -> Option<Fault>
         ensures { result ≡ keep_least kept fault }
     {

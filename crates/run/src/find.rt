@@ -28,7 +28,8 @@ pub fn end_of(run: &[Node], at: usize) -> Option<usize>
     None
 }
 
-// Of so many values in turn, the first of them at `first`, the place of the one that is named so.
+// Of so many values in turn, the first of them at `first`, the place of the one that is named so. The loop only counts them:
+// where each begins is known from the one before.
 fn named(run: &[Node], name: Name, count: u32, first: usize) -> Option<usize>
     ensures { result ≡ named_of run.now name count first }
 {

@@ -86,8 +86,8 @@ impl<'r> Reader<'r> {
         Ok(node)
     }
 
-    // So many trees in turn, the first of them in this slot. A count may announce more than there are nodes: reading then
-    // ends at the node that is missing.
+    // So many trees in turn, the first of them in this slot; the loop only counts them. A count may announce more than there
+    // are nodes: reading then ends at the node that is missing.
     #[cycle(tree_trees)]
     #[tactic(auto, using(crate::proofs::TreesInTurn::turn_on))]
     pub(crate) fn trees<L: Language>(

@@ -13,7 +13,7 @@ use crate::runs::{Runs, uid_of};
 use model::fault::{Fault, Refusal};
 use run::check::check_entity;
 
-// The least fault so far, and those that were found.
+// The least fault so far, and those that were found: Options, since more may be found.
 #[tactic(auto, using(crate::proofs::Keeping::in_turn))]
 pub(crate) fn keep_found(kept: Option<Fault>, found: &[Option<Fault>]) -> Option<Fault>
     ensures { result ≡ least_with kept (flat_map option_to_list found.now) }

@@ -63,7 +63,7 @@ fn load<'b, S: Store>(
     buffer.get(..length).context("a run beyond its buffer")
 }
 
-// Prints all entities of a store, one to a line.
+// Prints all entities of a store, one to a line. A store is asked place by place.
 fn list<S: Store>(rt: &HostRuntime, store: &S, names: &Names) -> anyhow::Result<()> {
     let mut buffer = vec![in rt.alloc(); Node::new(0, 0, 0, 0); limits::RUN_NODES]?;
     for place in 0..store.count() {
