@@ -39,7 +39,8 @@ pub fn read_node(bytes: &[u8], at: usize) -> Option<Node>
     })
 }
 
-// The little-endian u32 at `at`, whose four bytes are there.
+// The little-endian u32 at `at`, whose four bytes are there. That a place lies within some bytes is said here and below of the
+// two as they are: a type that holds them would be one more slice.
 pub(crate) fn u32_at(bytes: &[u8], at: usize) -> u32
     requires { at + 4 ≤ length bytes.now }
     ensures { result ≡ u32_at bytes.now at }

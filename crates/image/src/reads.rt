@@ -12,7 +12,8 @@ use model::fault::{Fault, Layer, Refusal};
 use model::node::{Node, Uid};
 use std::ops::Range;
 
-// The bytes of an image, of which no fault was found.
+// The bytes of an image, of which no fault was found. It reads runs as a table of nodes does, and apart from it: a table lends
+// a run as a slice, here each node is made from its bytes.
 #[derive(Clone, Copy)]
 pub(crate) struct Reader<'i> {
     pub(crate) layout: Layout<'i>,

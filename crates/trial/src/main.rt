@@ -35,7 +35,8 @@ fn at_fault(what: &str, why: impl fmt::Display + Drop) -> anyhow::Error {
     anyhow!("{what}: {why}")
 }
 
-// The nodes of an image and the first node of each run, as its header announces them.
+// The nodes of an image and the first node of each run, as its header announces them: the two lists that a table is made of.
+// They are asked for one by one, as a program may.
 fn nodes_of(
     alloc: Global,
     bytes: &[u8],
