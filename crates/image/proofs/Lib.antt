@@ -1,3 +1,4 @@
+mod Exits
 pub mod ImageFacts
 pub mod ListFacts
 pub mod Parts

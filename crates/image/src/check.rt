@@ -1,7 +1,7 @@
 // Everything that has to hold of the bytes of an image.
 ghost use Rattle.std.specs.Prelude.{◌≡◌, ◌<◌, ◌≤◌, length, IfOk, OnOk, IfErr, None};
 ghost use Rattle.model.specs.Faults.{least_with};
-ghost use Rattle.model.specs.Images.{node_offset, fault_of, image_nodes, place_entries, whole_nodes, image_fault, image_entities};
+ghost use Rattle.model.specs.Images.{node_offset, fault_of, nodes_there, ends, counts, image_nodes, place_entries, whole_nodes, image_fault, image_entities};
 ghost use Rattle.image.specs.Opens.{BytesOf, ForReason};
 
 use crate::error::ImageError;
@@ -11,17 +11,16 @@ use model::node::Node;
 use std::alloc::{AllocError, Global};
 use store::runs::Runs;
 
-// The least fault so far, and that of a check: an Option, since more may be found.
-fn keep_checked(kept: Option<Fault>, checked: Result<(), Fault>) -> Option<Fault>
-    ensures { result ≡ least_with kept (fault_of checked) }
-{
-    match checked {
-        Ok(()) => kept,
-        Err(fault) => Fault::keep_least(kept, fault),
-    }
-}
-
 impl Layout<'_> {
+    // The least fault of the nodes, their end and the counts.
+    fn least_fault(&self) -> Option<Fault>
+        ensures { result ≡ least_with (least_with (least_with None (fault_of (nodes_there self.now.bytes.now self.now.header.entities self.now.header.nodes))) (fault_of (ends self.now.bytes.now self.now.header.entities self.now.header.nodes))) (fault_of (counts self.now.header.entities self.now.header.nodes)) }
+    {
+        let least = Fault::keep_checked(None, self.check_nodes());
+        let least = Fault::keep_checked(least, self.check_end());
+        Fault::keep_checked(least, self.check_counts())
+    }
+
     // How many of the announced nodes are wholly there.
     fn whole_nodes(&self) -> u32
         ensures is { result ≡ whole_nodes self.now.bytes.now }
@@ -59,9 +58,7 @@ impl WholeList<'_> {
         let header = layout.header;
         let firsts = self.entries(heap)?;
         let nodes = layout.nodes(heap)?;
-        let least = keep_checked(None, layout.check_nodes());
-        let least = keep_checked(least, layout.check_end());
-        let least = keep_checked(least, layout.check_counts());
+        let least = layout.least_fault();
         let runs = Runs {
             nodes: nodes.as_slice(),
             firsts: firsts.as_slice(),

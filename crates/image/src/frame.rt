@@ -50,8 +50,9 @@ impl Header {
         let entities = field(bytes, 0)?;
         let nodes = field(bytes, 4)?;
         require(field(bytes, 8)? == 16, 8)?;
-        require(field(bytes, 12)? as usize == 16 + entities as usize * 4, 12)?;
-        Ok(Header { entities, nodes })
+        let header = Header { entities, nodes };
+        require(field(bytes, 12)? as usize == header.node_offset(0), 12)?;
+        Ok(header)
     }
 
     // Where the entry `k` of the place list stands.

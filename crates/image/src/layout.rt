@@ -63,8 +63,7 @@ impl<'b> Layout<'b> {
         require(first < self.header.nodes, offset)
     }
 
-    // Every entry of the place list, in turn. Entries, and nodes below, lie in bytes: there is no slice to go over, and `for`
-    // with `?` is as plain as `try_for_each`.
+    // Every entry of the place list, in turn. As `try_for_each` the check found no proof of it, nor of the nodes below.
     fn check_place_list(&self) -> Result<(), Fault>
         ensures { result ≡ place_list self.now.bytes.now self.now.header.entities self.now.header.nodes }
     {

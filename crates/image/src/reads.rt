@@ -72,8 +72,7 @@ impl Reader<'_> {
         ensures { result ≡ uid_answer (image_entities self.now.layout.bytes.now) place }
     {
         let run = self.run(place)?;
-        let head = self.layout.node(run.start);
-        Ok((head.a, head.b))
+        Ok(self.layout.node(run.start).uid())
     }
 
     // The nodes of these indexes, for which there is exactly room. (Of what a loop over `iter_mut().zip(run)` writes, nothing

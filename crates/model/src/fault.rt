@@ -1,6 +1,7 @@
 ghost use Rattle.std.specs.Prelude.{◌≡◌};
 ghost use Rattle.model.specs.Orders.{Total};
-ghost use Rattle.model.specs.Faults.{refusal_number, layer_number, whole_call, placed, of_entity, precedes as precedes_of, stands, keep_least};
+ghost use Rattle.model.specs.Faults.{refusal_number, layer_number, whole_call, placed, of_entity, precedes as precedes_of, stands, keep_least, least_with};
+ghost use Rattle.model.specs.Images.{fault_of};
 
 // What is refused. The numbers are those that a host sees; the Rust's names where it has one.
 #[derive(Clone, Copy, PartialEq, Eq, PartialOrd, Ord)]
@@ -59,7 +60,7 @@ impl From<Layer> for u32 {
 }
 
 // A refusal with its layer and place. A fault about a whole call has both places 0. The parts stand in the order in which
-// faults are compared.
+// faults are compared. A host reads the four as numbers, so the place is no enum with a case for each layer.
 #[derive(Clone, Copy, PartialEq, Eq, PartialOrd, Ord)]
 pub struct Fault {
     pub refusal: Refusal,
@@ -125,6 +126,16 @@ impl Fault {
         match kept {
             None => Some(fault),
             Some(least) => Some(least.first(fault)),
+        }
+    }
+
+    // The least fault so far, and that of a check.
+    pub fn keep_checked(kept: Option<Fault>, checked: Result<(), Fault>) -> Option<Fault>
+        ensures { result ≡ least_with kept (fault_of checked) }
+    {
+        match checked {
+            Ok(()) => kept,
+            Err(fault) => Fault::keep_least(kept, fault),
         }
     }
 }

@@ -17,14 +17,14 @@ pub enum ValueKind {
     Extension = 7,
 }
 
-// The kind of the first node of an entity's run. No value and no type has it, so it is a case of neither enum.
+// The kind of the first node of an entity's run, which no value has. An enum beside `ValueKind` would have this one case.
 pub const ENTITY_KIND: u32 = 9;
 
 impl From<ValueKind> for u32 {
     ghost from_gives = { λ kind n. n ≡ value_number kind };
 
-    fn from(kind: ValueKind) -> u32 {
-        kind as u32
+    fn from(value_kind: ValueKind) -> u32 {
+        value_kind as u32
     }
 }
 
@@ -59,8 +59,8 @@ pub enum ExtensionKind {
 impl From<ExtensionKind> for u32 {
     ghost from_gives = { λ kind n. n ≡ extension_code kind };
 
-    fn from(kind: ExtensionKind) -> u32 {
-        kind as u32
+    fn from(extension_kind: ExtensionKind) -> u32 {
+        extension_kind as u32
     }
 }
 
@@ -102,8 +102,8 @@ pub enum TypeKind {
 impl From<TypeKind> for u32 {
     ghost from_gives = { λ kind n. n ≡ type_number kind };
 
-    fn from(kind: TypeKind) -> u32 {
-        kind as u32
+    fn from(type_kind: TypeKind) -> u32 {
+        type_kind as u32
     }
 }
 

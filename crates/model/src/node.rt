@@ -34,6 +34,14 @@ impl Node {
         }
     }
 
+    // The uid that a node names whose kind has one.
+    pub fn uid(self) -> Uid
+        ensures { result ≡ (self.a, self.b) }
+    {
+        let Node { a, b, .. } = self;
+        (a, b)
+    }
+
     // The same node as a record field or a tag of this name.
     pub fn with_field(self, field: Name) -> Node
         ensures { result ≡ under field self }

@@ -26,7 +26,7 @@ fn uid_follows(before: Option<Uid>, uid: Uid) -> bool
 
 impl Slot {
     // Whether a node may fill the slot, where `is_record` and `is_uid` say what its kind is: values and types number their
-    // kinds apart, and an enum for these two answers would be taken apart at once.
+    // kinds apart, and an enum of record, uid and neither would be made by two tests and taken apart by the same two.
     pub fn fills(self, is_record: bool, is_uid: bool, node: Node) -> bool
         ensures { result ≡ fills_of self is_record is_uid node }
     {
@@ -35,9 +35,7 @@ impl Slot {
             Slot::Named(before) => before.is_none_or(|name| name < node.field),
             Slot::ARecord => node.field == 0 && is_record,
             Slot::AUid => node.field == 0 && is_uid,
-            Slot::Ancestor(before) => node.field == 0
-                && is_uid
-                && uid_follows(before, (node.a, node.b)),
+            Slot::Ancestor(before) => node.field == 0 && is_uid && uid_follows(before, node.uid()),
         }
     }
 
@@ -50,7 +48,7 @@ impl Slot {
             Slot::Named(_) => Slot::Named(Some(node.field)),
             Slot::ARecord => Slot::ARecord,
             Slot::AUid => Slot::AUid,
-            Slot::Ancestor(_) => Slot::Ancestor(Some((node.a, node.b))),
+            Slot::Ancestor(_) => Slot::Ancestor(Some(node.uid())),
         }
     }
 }

@@ -1,4 +1,5 @@
 ghost use Rattle.std.specs.Prelude.{◌≡◌, ◌==◌};
+ghost use Rattle.model.specs.declared.fault.Refusal.TheVariants.{Malformed, Limit};
 ghost use Rattle.model.specs.Trees.{root};
 ghost use Rattle.model.specs.Reading.{start, read_node, read_tree, read_trees};
 ghost use Rattle.run.specs.Reads.{told, seen, rest_only};
@@ -11,8 +12,44 @@ use model::node::Node;
 use model::slot::Slot;
 use std::marker::Model;
 
-// A refusal and the node at which it stands, counted from 1. A pair, as the definition of reading answers it.
-pub type Refused = (Refusal, usize);
+// A refusal and the node at which it stands, counted from 1.
+#[derive(Clone, Copy)]
+pub struct Refused {
+    pub refusal: Refusal,
+    pub node: usize,
+}
+
+// The pair that the definition of reading answers.
+impl Model for Refused {
+    ghost use Rattle.std.specs.Prelude.{ℕ};
+    ghost use Rattle.model.specs.declared.fault.Refusal.{Refusal};
+
+    ghost Value = { Refusal × ℕ };
+
+    ghost view = { λ r. (r.refusal, r.node) };
+
+    ghost inverse = { λ v. record { refusal = v.0; node = v.1 } };
+}
+
+impl Refused {
+    fn malformed(node: usize) -> Refused
+        ensures { result ≡ (Malformed, node) }
+    {
+        Refused {
+            refusal: Refusal::Malformed,
+            node,
+        }
+    }
+
+    fn limit(node: usize) -> Refused
+        ensures { result ≡ (Limit, node) }
+    {
+        Refused {
+            refusal: Refusal::Limit,
+            node,
+        }
+    }
+}
 
 // A run that is being read.
 #[derive(Drop)]
@@ -56,14 +93,14 @@ impl<'r> Reader<'r> {
     {
         let place = self.place;
         let Some((&node, rest)) = self.nodes.split_first() else {
-            return Err((Refusal::Malformed, place));
+            return Err(Refused::malformed(place));
         };
         if !L::takes(slot, node) {
-            return Err((Refusal::Malformed, place));
+            return Err(Refused::malformed(place));
         }
         let first = self.passed.unwrap_or(place);
         if room == 0 || place > limits::RUN_NODES {
-            return Err((Refusal::Limit, first));
+            return Err(Refused::limit(first));
         }
         if !L::keeps(slot, node) {
             self.passed = Some(first);
@@ -80,6 +117,7 @@ impl<'r> Reader<'r> {
         ensures { told result self.new ≡ seen root (read_tree L.layout room slot self.old) }
     {
         let node = self.node::<L>(room, slot)?;
+        // always: with no nesting left the node was refused
         if room > 0 {
             self.trees::<L>(room - 1, u64::from(L::arity(node)), L::inside(node))?;
         }
@@ -111,10 +149,10 @@ impl<'r> Reader<'r> {
         ensures { result ≡ at_end self.entry }
     {
         if !self.nodes.is_empty() {
-            return Err((Refusal::Malformed, self.place));
+            return Err(Refused::malformed(self.place));
         }
         match self.passed {
-            Some(place) => Err((Refusal::Limit, place)),
+            Some(place) => Err(Refused::limit(place)),
             None => Ok(()),
         }
     }

@@ -2,7 +2,7 @@ ghost use Rattle.std.specs.Prelude.{◌≡◌};
 ghost use Rattle.model.specs.Layouts.{types, type_node, type_mark, type_kept};
 
 use crate::language::{Language, keeps_name};
-use model::kind::TypeKind;
+use model::kind::{ExtensionKind, TypeKind};
 use model::limits;
 use model::node::Node;
 use model::slot::Slot;
@@ -42,14 +42,15 @@ impl Language for Types {
 }
 
 // A node of a type uses `a` for the name of an entity type, the code of an extension or the count of fields, and never `b`.
-#[tactic(auto, using(crate::proofs::Unknown::no_type))]
+#[tactic(auto, using(crate::proofs::Unknown::no_type, crate::proofs::Unknown::no_extension))]
 fn is_type(node: Node) -> bool
     ensures { result ≡ type_node node }
 {
     node.b == 0
         && match TypeKind::try_from(node.kind) {
             Ok(TypeKind::Entity | TypeKind::ClosedRecord | TypeKind::OpenRecord) => true,
-            Ok(TypeKind::Extension) => node.a <= 4,
+            // 0 for an extension that is not known
+            Ok(TypeKind::Extension) => node.a == 0 || ExtensionKind::try_from(node.a).is_ok(),
             Ok(_) => node.a == 0,
             Err(_) => false,
         }

@@ -4,7 +4,7 @@ use Rattle.std.proofs.lemmas.Grind.{flat_map-append}
 use Rattle.std.proofs.lemmas.List.{append-nil}
 use Rattle.std.proofs.lemmas.List.Elements.{All-pop, All-from_get_or}
 use Rattle.std.proofs.lemmas.List.FromFn.{length-range_with_len, get_or-range_with_len}
-use Rattle.std.specs.List.{All, flat_map, fold, range_with_len}
+use Rattle.std.specs.List.{All, flat_map, range_with_len}
 use Rattle.model.specs.declared.fault.Fault.{Fault}
 use Rattle.model.specs.Faults.{least_with, keep_least}
 use Rattle.model.specs.Stores.{collected}
@@ -13,11 +13,6 @@ use Rattle.model.specs.Stores.{collected}
 pub keeps_both : (xs ys : List Fault) (kept : Option Fault) → least_with (least_with kept xs) ys ≡ least_with kept (xs ++ ys)
 keeps_both [] ys kept = refl
 keeps_both (x ∷ xs) ys kept = keeps_both xs ys (keep_least kept x)
-
--- some faults in turn
-pub in_turn : (fs : List Fault) (kept : Option Fault) → fold keep_least kept fs ≡ least_with kept fs
-in_turn [] kept = refl
-in_turn (f ∷ fs) kept = in_turn fs (keep_least kept f)
 
 -- the faults of some numbers in turn, each of which can be told
 module _ (f : ℕ → List Fault) (Told : ℕ → Type 0) (kept : Option Fault) where

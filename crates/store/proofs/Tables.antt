@@ -2,6 +2,8 @@
 use Rattle.std.proofs.Common.{◌≡◌, ℕ, ◌<◌, ◌≤◌, List, ◌++◌, length, Some, None, Option, sym, ap, ◌∙◌, arith}
 use Rattle.model.specs.declared.node.Node.{Node}
 use Rattle.model.specs.declared.fault.Fault.{Fault}
+use Rattle.model.specs.Checks.{Checked}
+use Rattle.model.specs.Options.{unless}
 use Rattle.model.specs.Faults.{least, least_with}
 use Rattle.model.specs.Entities.{Entity, entity_run}
 use Rattle.model.specs.Stores.{entity_at, run_at, entities_of, broken_entry, table_faults, run_faults, unless_entry, table_fault}
@@ -30,11 +32,12 @@ of_none ns fs f h es n =
     let e : table_fault ns fs ≡ None = ap (λ v. table_fault v fs) (sym n.1) ∙ (ap (table_fault _) (sym n.2) ∙ a) in
     cc
 
--- where no entry is broken, the first nodes lie below the number of nodes, and the least fault decides
-pub judged : (ns : List Node) (fs : List ℕ) (room : ℕ) (kept o : Option Fault) → length ns ≤ room → None ≡ broken_entry (length ns) fs → kept ≡ least (table_faults ns fs)
-    → (AllBelow room fs → o ≡ least_with kept (run_faults (told by_entity fs) ns fs)) → o ≡ table_fault ns fs
-judged ns fs room kept o l b t h =
-    h (λ k m. let s = (sound (length ns) fs (sym b)).below k m in omega arith)
+-- where no entry is broken, the first nodes lie below the number of nodes, and the least fault is the answer
+pub judged : (ns : List Node) (fs : List ℕ) (room : ℕ) {kept o r : Option Fault} → o ≡ r → length ns ≤ room → None ≡ broken_entry (length ns) fs → kept ≡ least (table_faults ns fs)
+    → (AllBelow room fs → o ≡ least_with kept (run_faults (told by_entity fs) ns fs)) → ◌≡◌ {A = Checked} (unless r tt) (unless (table_fault ns fs) tt)
+judged ns fs room is l b t h =
+    ap (λ o. unless o tt) (sym is
+    ∙ h (λ k m. let s = (sound (length ns) fs (sym b)).below k m in omega arith)
     ∙ (ap (λ x. least_with x (run_faults (told by_entity fs) ns fs)) t
     ∙ (keeps_both (table_faults ns fs) (run_faults (told by_entity fs) ns fs) None
-    ∙ ap (λ e. unless_entry e (least (table_faults ns fs ++ run_faults (told by_entity fs) ns fs))) b))
+    ∙ ap (λ e. unless_entry e (least (table_faults ns fs ++ run_faults (told by_entity fs) ns fs))) b)))

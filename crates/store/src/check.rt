@@ -1,13 +1,12 @@
 // What making a table of nodes refuses.
 ghost use Rattle.std.specs.Prelude.{◌≡◌, ◌<◌, ◌-◌, ◌==◌, ◌&&◌, nat_lt, length};
-ghost use Rattle.std.specs.Option.{option_to_list};
 ghost use Rattle.model.specs.declared.fault.Refusal.TheVariants.{Malformed, Limit};
 ghost use Rattle.model.specs.Options.{unless};
 ghost use Rattle.model.specs.Faults.{least, of_entity};
+ghost use Rattle.model.specs.Images.{fault_of};
 ghost use Rattle.model.specs.Stores.{run_holding, at_node, fault_if, table_faults, table_fault};
 
 use crate::fault_places::ByEntity;
-use crate::faults::keep_found;
 use crate::runs::Runs;
 use model::fault::{Fault, Refusal};
 use model::limits;
@@ -23,43 +22,47 @@ impl<'n> Runs<'n> {
             .unwrap_or(0)
     }
 
-    // Nodes without an entity.
-    fn bare_fault(self) -> Option<Fault>
-        ensures { option_to_list result ≡ fault_if (length self.entry.firsts.now == 0 && nat_lt 0 (length self.entry.nodes.now)) (of_entity Malformed 0 1) }
+    // No nodes without an entity.
+    fn check_bare(self) -> Result<(), Fault>
+        ensures { fault_of result ≡ fault_if (length self.entry.firsts.now == 0 && nat_lt 0 (length self.entry.nodes.now)) (of_entity Malformed 0 1) }
     {
-        let bare = self.firsts.is_empty() && !self.nodes.is_empty();
-        bare.then(|| Fault::of_entity(Refusal::Malformed, 0, 1))
+        if self.firsts.is_empty() && !self.nodes.is_empty() {
+            return Err(Fault::of_entity(Refusal::Malformed, 0, 1));
+        }
+        Ok(())
     }
 
-    // The first entity beyond the limit.
-    fn entities_fault(self) -> Option<Fault>
-        ensures { option_to_list result ≡ fault_if (nat_lt 1024 (length self.entry.firsts.now)) (of_entity Limit 1024 1) }
+    // No entity beyond the limit.
+    fn check_entities(self) -> Result<(), Fault>
+        ensures { fault_of result ≡ fault_if (nat_lt 1024 (length self.entry.firsts.now)) (of_entity Limit 1024 1) }
     {
         let limit = limits::STORE_ENTITIES as usize;
-        (self.firsts.len() > limit).then(|| Fault::of_entity(Refusal::Limit, limit, 1))
+        if self.firsts.len() > limit {
+            return Err(Fault::of_entity(Refusal::Limit, limit, 1));
+        }
+        Ok(())
     }
 
-    // The first node beyond the limit.
-    fn nodes_fault(self) -> Option<Fault>
-        ensures { option_to_list result ≡ fault_if (nat_lt 65536 (length self.entry.nodes.now)) (at_node Limit self.entry.firsts.now 65536) }
+    // No node beyond the limit.
+    fn check_nodes(self) -> Result<(), Fault>
+        ensures { fault_of result ≡ fault_if (nat_lt 65536 (length self.entry.nodes.now)) (at_node Limit self.entry.firsts.now 65536) }
     {
         let limit = limits::STORE_NODES as usize;
         if self.nodes.len() <= limit {
-            return None;
+            return Ok(());
         }
         let k = self.run_holding(limit);
         let node = limit.saturating_sub(self.first_at(k)) + 1;
-        Some(Fault::of_entity(Refusal::Limit, k, node))
+        Err(Fault::of_entity(Refusal::Limit, k, node))
     }
 
     // The least of the faults that are about the whole table.
     fn table_faults(self) -> Option<Fault>
         ensures { result ≡ least (table_faults self.entry.nodes.now self.entry.firsts.now) }
     {
-        keep_found(
-            None,
-            &[self.bare_fault(), self.entities_fault(), self.nodes_fault()],
-        )
+        let least = Fault::keep_checked(None, self.check_bare());
+        let least = Fault::keep_checked(least, self.check_entities());
+        Fault::keep_checked(least, self.check_nodes())
     }
 
     // Whether the runs make a table: a broken entry stands alone, else the least fault.

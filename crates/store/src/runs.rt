@@ -15,7 +15,7 @@ pub struct Runs<'n> {
 pub(crate) fn uid_of(run: &[Node]) -> Uid
     ensures { result ≡ head_uid run.now }
 {
-    run.first().map_or((0, 0), |node| (node.a, node.b))
+    run.first().map_or((0, 0), |node| node.uid())
 }
 
 impl<'n> Runs<'n> {

@@ -5,7 +5,7 @@ use crate::runs::Runs;
 use model::node::Node;
 
 // A store of nodes in memory: the run of each entity goes from its first node to that of the next. It owns both lists, by
-// a rule of the project; what they mean together is said of `Runs`, which borrows them.
+// a rule of the project (stores and images own their data); what they mean together is said of `Runs`, which borrows them.
 #[derive(Drop)]
 pub struct NodeTable {
     pub(crate) nodes: Vec<Node>,

@@ -22,7 +22,7 @@ pub(crate) enum Extension {
 
 impl Extension {
     // The extension value of a node, where the node has a kind of extension and a number that goes with it.
-    pub(crate) fn of(node: Node) -> Option<Extension> {
+    pub(crate) fn from_node(node: Node) -> Option<Extension> {
         match ExtensionKind::try_from(node.a).ok()? {
             ExtensionKind::Decimal => Some(Extension::Decimal(node.number)),
             ExtensionKind::Ipaddr => Some(Extension::Ip {

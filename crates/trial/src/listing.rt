@@ -76,7 +76,7 @@ impl<'a> Writer<'a> {
             }
             Ok(ValueKind::Uid) => self.uid(node)?,
             Ok(ValueKind::Extension) => {
-                let extension = Extension::of(node).ok_or(ListingError::Node(index))?;
+                let extension = Extension::from_node(node).ok_or(ListingError::Node(index))?;
                 write!(self.out, "{extension}")?;
             }
             Ok(ValueKind::Set) if nesting > 1 => self.set(node.a, nesting - 1)?,
@@ -86,8 +86,8 @@ impl<'a> Writer<'a> {
         Ok(())
     }
 
-    // The elements of a set. How many come is read from a node; `i` only tells where a separator stands, here and below: an
-    // iterator of separators would need a longer type than the loop.
+    // The elements of a set. How many come is read from a node; `i` only tells where a separator stands, here and in the two
+    // loops below: each has brackets of its own, and one loop that takes the item as a closure would be no shorter.
     #[cycle(value)]
     fn set(&mut self, count: u32, nesting: usize) -> Result<(), ListingError> {
         self.out.push('[')?;

@@ -30,13 +30,13 @@ fn help(rt: &HostRuntime) -> io::Result<()> {
     )
 }
 
-// What is at fault, and why, for whoever reads the message. `context` would print one of the two alone.
+// What is at fault, and why, in one message. A fault of a store or an image is no `Error`, so `context` does not take it.
 fn at_fault(what: &str, why: impl fmt::Display + Drop) -> anyhow::Error {
     anyhow!("{what}: {why}")
 }
 
-// The nodes of an image and the first node of each run, as its header announces them: the two lists that a table is made of.
-// They are asked for one by one, as a program may.
+// The nodes of an image and the first node of each run, as its header announces them: the two lists that a table is made of,
+// by a rule of the project. They are all there, since the frame is whole.
 fn nodes_of(
     alloc: Global,
     bytes: &[u8],

@@ -20,9 +20,9 @@ faults bs h ns fs =
     fault_of (nodes_there bs h.entities h.nodes)
     ++ (fault_of (ends bs h.entities h.nodes) ++ (fault_of (counts h.entities h.nodes) ++ run_faults (told (by_offset h.entities) fs) ns fs))
 
--- three checks and some faults, kept one after another
-kept : (a b d rest : List Fault) (k x y z : Option Fault) → x ≡ least_with None a → y ≡ least_with x b → z ≡ least_with y d → k ≡ least_with z rest → k ≡ least (a ++ (b ++ (d ++ rest)))
-kept a b d rest k x y z p q r s = cc (keeps_both d rest (least_with (least_with None a) b), keeps_both b (d ++ rest) (least_with None a), keeps_both a (b ++ (d ++ rest)) None)
+-- the faults of three checks and of the runs, one after another
+kept : (a b d rest : List Fault) (k z : Option Fault) → z ≡ least_with (least_with (least_with None a) b) d → k ≡ least_with z rest → k ≡ least (a ++ (b ++ (d ++ rest)))
+kept a b d rest k z p q = cc (keeps_both d rest (least_with (least_with None a) b), keeps_both b (d ++ rest) (least_with None a), keeps_both a (b ++ (d ++ rest)) None)
 
 -- they are those of the definition
 of_bytes : (bs : List ℕ) (h : Header) (ns : List Node) (fs : List ℕ) (k : Option Fault) → ListWhole bs → h ≡ announced bs → ns ≡ image_nodes bs → fs ≡ place_entries bs → k ≡ least (faults bs h ns fs) → image_fault bs ≡ k
@@ -35,7 +35,7 @@ of_bytes bs h ns fs k w h_is n_is f_is e =
     ∙ ap (λ v. least (fault_of (nodes_there bs (announced bs).entities (announced bs).nodes) ++ (fault_of (ends bs (announced bs).entities (announced bs).nodes) ++ (fault_of (counts (announced bs).entities (announced bs).nodes) ++ v)))) (told_alike bs))
 
 -- the faults that were found are those of the bytes
-module _ (list : WholeList) (ns : List Node) (fs : List ℕ) (x y z k : Option Fault) where
+module _ (list : WholeList) (ns : List Node) (fs : List ℕ) (z k : Option Fault) where
   abbrev bs : List ℕ
   bs = list.layout.bytes.now
 
@@ -43,27 +43,18 @@ module _ (list : WholeList) (ns : List Node) (fs : List ℕ) (x y z k : Option F
   h = list.layout.header
 
   found : ns ≡ image_nodes bs → fs ≡ place_entries bs → h.nodes ≤ 4294967296
-      → x ≡ least_with None (fault_of (nodes_there bs h.entities h.nodes)) → y ≡ least_with x (fault_of (ends bs h.entities h.nodes)) → z ≡ least_with y (fault_of (counts h.entities h.nodes))
+      → z ≡ least_with (least_with (least_with None (fault_of (nodes_there bs h.entities h.nodes))) (fault_of (ends bs h.entities h.nodes))) (fault_of (counts h.entities h.nodes))
       → (AllBelow 4294967296 fs → k ≡ least_with z (run_faults (told (by_offset h.entities) fs) ns fs)) → image_fault bs ≡ k
-  found n_is f_is small p q r s =
+  found n_is f_is small p s =
       let n : node_count bs ≤ 4294967296 = let e = ap (λ (g : Header). g.nodes) list.layout.announced in omega arith in
       let below = subst (AllBelow 4294967296) (sym f_is) (entries_below bs 4294967296 list.whole n) in
-      of_bytes bs h ns fs k list.whole list.layout.announced n_is f_is (kept (fault_of (nodes_there bs h.entities h.nodes)) (fault_of (ends bs h.entities h.nodes)) (fault_of (counts h.entities h.nodes)) (run_faults (told (by_offset h.entities) fs) ns fs) k x y z p q r (s below))
+      of_bytes bs h ns fs k list.whole list.layout.announced n_is f_is (kept (fault_of (nodes_there bs h.entities h.nodes)) (fault_of (ends bs h.entities h.nodes)) (fault_of (counts h.entities h.nodes)) (run_faults (told (by_offset h.entities) fs) ns fs) k z p (s below))
 
 pub returns-in-None-clause-ok : goal.returns-in-None-clause-ok
 returns-in-None-clause-ok c =
-    found c.args.self _ _ _ _ _ None (c.as_slice.ensures.value ∙ c.in_ok-nodes.ensures) (c.as_slice-2.ensures.value ∙ c.in_ok-firsts.ensures) (omega arith)
-    (c.keep_checked-least.ensures ∙ ap (λ o. least_with None (fault_of o)) c.check_nodes.ensures)
-    (c.keep_checked-least-2.ensures ∙ ap (λ o. least_with c.keep_checked-least.result (fault_of o)) c.check_end.ensures)
-    (c.keep_checked-least-3.ensures ∙ ap (λ o. least_with c.keep_checked-least-2.result (fault_of o)) c.check_counts.ensures)
-    c.in-None.ensures
+    found c.args.self _ _ _ None (c.as_slice.ensures.value ∙ c.in_ok-nodes.ensures) (c.as_slice-2.ensures.value ∙ c.in_ok-firsts.ensures) (omega arith) c.least_fault-least.ensures c.in-None.ensures
 
 pub returns-clause-err : goal.returns-clause-err
 returns-clause-err c =
-    let is =
-    found c.args.self _ _ _ _ _ (Some c.in-Some.fault) (c.as_slice.ensures.value ∙ c.in_ok-nodes.ensures) (c.as_slice-2.ensures.value ∙ c.in_ok-firsts.ensures) (omega arith)
-    (c.keep_checked-least.ensures ∙ ap (λ o. least_with None (fault_of o)) c.check_nodes.ensures)
-    (c.keep_checked-least-2.ensures ∙ ap (λ o. least_with c.keep_checked-least.result (fault_of o)) c.check_end.ensures)
-    (c.keep_checked-least-3.ensures ∙ ap (λ o. least_with c.keep_checked-least-2.result (fault_of o)) c.check_counts.ensures)
-    c.in-Some.ensures in
+    let is = found c.args.self _ _ _ (Some c.in-Some.fault) (c.as_slice.ensures.value ∙ c.in_ok-nodes.ensures) (c.as_slice-2.ensures.value ∙ c.in_ok-firsts.ensures) (omega arith) c.least_fault-least.ensures c.in-Some.ensures in
     (is, no_list c.args.self.layout.bytes.now c.in-Some.fault is)
