@@ -11,7 +11,8 @@ use model::kind::ValueKind;
 use model::node::{Name, Node};
 use model::slot::Slot;
 
-// The place behind the value at `at`, where the run goes on that far.
+// The place behind the value at `at`, where the run goes on that far. A run and a place in it are said of apart, here and below:
+// what is found is a place again.
 pub fn end_of(run: &[Node], at: usize) -> Option<usize>
     ensures is { result ≡ passes 1 (drop at run.now) at }
     ensures tree { (s : Slot) (t : Tree) (rest : List Node) → fits values s t ≡ true → drop at run.now ≡ run_of t ++ rest → result ≡ Some (at + size t) }
