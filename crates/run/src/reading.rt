@@ -13,7 +13,7 @@ use model::slot::Slot;
 use std::marker::Model;
 
 // A refusal and the node at which it stands, counted from 1.
-#[derive(Clone, Copy)]
+#[derive(Clone, Copy, PartialEq, Eq)]
 pub struct Refused {
     pub refusal: Refusal,
     pub node: usize,
