@@ -3,6 +3,7 @@
 
 pub mod bytes;
 pub(crate) mod check;
+pub(crate) mod draft;
 pub mod error;
 pub mod frame;
 pub mod image;
@@ -10,5 +11,7 @@ pub mod image_store;
 pub(crate) mod layout;
 pub(crate) mod offsets;
 pub mod open;
+pub(crate) mod push;
 pub(crate) mod reads;
 pub mod view;
+pub mod write;

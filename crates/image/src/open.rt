@@ -36,7 +36,7 @@ impl Image {
 }
 
 #[cfg(test)]
-mod tests {
+pub(crate) mod tests {
     use super::*;
     use crate::view::{NodeBytes, View};
     use model::node::Node;
@@ -44,7 +44,7 @@ mod tests {
     use store::store::Store;
 
     // One entity without attributes, ancestors and tags.
-    const BARE: [u8; 68] = [
+    pub(crate) const BARE: [u8; 68] = [
         1, 0, 0, 0, 2, 0, 0, 0, 16, 0, 0, 0, 20, 0, 0, 0, 0, 0, 0, 0, 9, 0, 0, 0, 0, 0, 0, 0, 2, 0,
         0, 0, 1, 0, 0, 0, 0, 0, 0, 0, 0, 0, 0, 0, 6, 0, 0, 0, 0, 0, 0, 0, 0, 0, 0, 0, 0, 0, 0, 0,
         0, 0, 0, 0, 0, 0, 0, 0,

@@ -1,20 +1,17 @@
 -- Writing the entities of a list one after another.
-use Rattle.std.proofs.Common.{◌≡◌, ℕ, zero, suc, ◌+◌, ◌-◌, ◌<◌, ◌≤◌, Bool, true, false, cond, ltb, leb, List, [], ◌∷◌, ◌++◌, length, take, drop, Some, None, Ok, Err, vec_items, Option, Result, sym, refl, ap, ◌∙◌, subst, append_assoc, append-nil, arith, length-append, length-drop}
+use Rattle.std.proofs.Common.{◌≡◌, ℕ, zero, suc, ◌+◌, ◌<◌, ◌≤◌, List, [], ◌∷◌, ◌++◌, length, take, drop, Some, Ok, Err, sym, ap, ◌∙◌, subst, append-nil, arith, length-append, length-drop}
 use Rattle.std.proofs.lemmas.List.{take_at}
-use Rattle.std.proofs.lemmas.Bool.{cond-true, cond-false, lt-ltb, le-ltb, le-leb, lt-leb}
+use Rattle.std.proofs.lemmas.Bool.{cond-false, le-ltb}
 use Rattle.model.specs.declared.node.Node.{Node}
 use Rattle.model.specs.declared.fault.Fault.{Fault}
-use Rattle.model.specs.declared.fault.Refusal.TheVariants.{Limit}
-use Rattle.model.specs.declared.fault.Layer.TheVariants.{Entity as entity_layer}
-use Rattle.model.specs.Faults.{of_entity, whole_call}
 use Rattle.model.specs.Entities.{Entity, FormedEntity, entity_run}
-use Rattle.model.specs.Stores.{Lawful, AllFormed, AllFitParts, RunsFitParts, entity_at, loaded, load_told, load_answer, first_at, run_holding, at_node}
+use Rattle.model.specs.Stores.{Lawful, AllFormed, AllFitParts, entity_at, load_told, load_answer}
 use Rattle.model.specs.Images.{entity_runs, first_nodes, low_bytes, node_bytes, joined}
 use Rattle.laws.proofs.WholeRuns.{at_suc, there}
-use Rattle.laws.proofs.TableRuns.{first_nodes_length, runs_append, firsts_append, rises_there}
+use Rattle.laws.proofs.TableRuns.{runs_append, firsts_append}
 use Rattle.laws.proofs.ImageRuns.{fit_runs, runs_fit, fit_append}
 use Rattle.image.specs.declared.draft.Draft.{Draft}
-use Rattle.image.specs.Drafts.{Drafted, Added, write_fault}
+use Rattle.image.specs.Drafts.{Drafted, Added}
 use Rattle.image.proofs.BytesOut.{joined_append}
 
 -- the entities before a place, the one at it, and those behind
@@ -64,7 +61,7 @@ module _ (es : List Entity) (k : ℕ) (e : Entity) (is : entity_at es k ≡ Some
   more : take (k + 1) es ≡ take k es ++ (e ∷ [])
   more = let n : k + 1 ≡ suc k = omega arith in ap (λ m. take m es) n ∙ (split es k e is).1
 
-  runs_more : entity_runs (take (k + 1) es) ≡ entity_runs (take k es) ++ entity_run e
+  pub runs_more : entity_runs (take (k + 1) es) ≡ entity_runs (take k es) ++ entity_run e
   runs_more = ap entity_runs more ∙ (runs_append (take k es) (e ∷ []) ∙ ap (λ v. entity_runs (take k es) ++ v) (append-nil (entity_run e)))
 
   firsts_more : first_nodes 0 (take (k + 1) es) ≡ first_nodes 0 (take k es) ++ (length (entity_runs (take k es)) ∷ [])
@@ -85,7 +82,6 @@ module _ (es : List Entity) (k : ℕ) (e : Entity) (is : entity_at es k ≡ Some
             ∙ (ap (λ v. joined node_bytes nodes ++ joined node_bytes v) r
             ∙ (sym (joined_append node_bytes nodes (entity_run e)) ∙ ap (joined node_bytes) (sym runs_more))));
         counted = let l = length-append nodes (entity_run e) in let c = p.counted in let q = a.counted in let s = ap length runs_more in let t = ap length r in omega arith;
-        few = a.few;
         fitting = fit_runs (take (k + 1) es) (subst AllFitParts (sym runs_more) (fit_append nodes (entity_run e) (runs_fit (take k es) p.fitting) (subst AllFitParts r a.fitting)));
       }
 
@@ -93,7 +89,7 @@ module _ (es : List Entity) (k : ℕ) (e : Entity) (is : entity_at es k ≡ Some
   cut : es ≡ take k es ++ (e ∷ drop (suc k) es)
   cut = (split es k e is).0
 
-  runs_cut : length (entity_runs es) ≡ length (entity_runs (take k es)) + (length (entity_run e) + length (entity_runs (drop (suc k) es)))
+  pub runs_cut : length (entity_runs es) ≡ length (entity_runs (take k es)) + (length (entity_run e) + length (entity_runs (drop (suc k) es)))
   runs_cut =
       let a = ap length (ap entity_runs cut ∙ runs_append (take k es) (e ∷ drop (suc k) es)) in
       let b = length-append (entity_runs (take k es)) (entity_run e ++ entity_runs (drop (suc k) es)) in

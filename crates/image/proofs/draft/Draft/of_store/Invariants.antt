@@ -1,6 +1,6 @@
-use Rattle.std.proofs.Common.{◌≡◌, ◌≤◌, length, take}
+use Rattle.std.proofs.Common.{◌≡◌, length, take}
 use Rattle.image.specs.Drafts.{Drafted}
-use Rattle.image.proofs.draft.draft_of.Given as goal
+use Rattle.image.proofs.draft.Draft.of_store.Given as goal
 
 -- the entities before the place are written; the buffer stays as long as it is
 abbrev pub invariant-loop-place : goal.invariant-loop-place

@@ -6,4 +6,4 @@ use Rattle.image.proofs.push.push_nodes.Given as goal
 -- the nodes so far
 abbrev pub invariant-loop-node : goal.invariant-loop-node
 invariant-loop-node l =
-    (vec_items l.out ≡ vec_items l.initial.out ++ joined node_bytes (take l.node-index l.run)) × AllFitParts (take l.node-index l.run)
+    (vec_items l.out ≡ vec_items l.initial.out ++ joined node_bytes (take l.node-index l.nodes)) × AllFitParts (take l.node-index l.nodes)
