@@ -3,7 +3,7 @@ ghost use Rattle.std.specs.Prelude.{◌≡◌};
 use model::fault::Fault;
 use std::alloc::AllocError;
 
-// Why bytes are not opened.
+// Why bytes are not opened, or a store is not written.
 #[derive(Clone, Copy, PartialEq, Eq)]
 pub enum ImageError {
     // they break a rule
