@@ -71,9 +71,13 @@ impl WholeList<'_> {
 }
 
 // What opening an image refuses: a broken header or place list stands alone, else the least fault.
+#[tactic(auto, using(crate::proofs::ListFacts::list_fault))]
 pub(crate) fn check_image(heap: Global, bytes: &[u8]) -> Result<(), ImageError>
     ensures ok { OnOk result ((image_fault bytes.now ≡ None) × BytesOf bytes.now (image_entities bytes.now)) }
     ensures err { IfErr result (λ error. ForReason error bytes.now) }
 {
-    WholeList::read(bytes)?.check(heap)
+    match WholeList::read(bytes) {
+        Ok(list) => list.check(heap),
+        Err(fault) => Err(ImageError::Fault(fault)),
+    }
 }

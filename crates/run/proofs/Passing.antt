@@ -1,7 +1,7 @@
 -- A turn of the count of values that are still to be passed, and that it passes over a tree.
-use Rattle.std.proofs.Common.{pos, ◌^◌, min, add_assoc, inl, inr, ◌≡◌, ℕ, zero, suc, ◌+◌, ◌-◌, ◌<◌, true, eqb, List, [], ◌∷◌, ◌++◌, length, drop, Some, None, Option, sym, refl, ap, ◌∙◌, append_assoc, arith}
+use Rattle.std.proofs.Common.{pos, ◌≡◌, ℕ, zero, suc, ◌+◌, ◌-◌, ◌<◌, true, eqb, List, [], ◌∷◌, ◌++◌, length, drop, Some, None, Option, sym, refl, ap, ◌∙◌, append_assoc, arith}
 use Rattle.std.proofs.lemmas.List.{at_drop_more, length-drop}
-use Rattle.std.proofs.lemmas.Bool.{cases_lt, eqb-true, and_parts}
+use Rattle.std.proofs.lemmas.Bool.{eqb-true, and_parts}
 use Rattle.model.specs.declared.node.Node.{Node}
 use Rattle.model.specs.declared.slot.Slot.{Slot}
 use Rattle.model.specs.Slots.{next}
@@ -21,26 +21,21 @@ passes_short xs zero p h = absurd (omega arith)
 passes_short [] (suc n) p h = refl
 passes_short (x ∷ xs) (suc n) p h = passes_short xs (n + value_arity x) (p + 1) (omega arith)
 
+module _ (run : List Node) (p n : ℕ) {r : Option ℕ} (inv : passes n (drop p run) p ≡ r) where
+  pub pass_on : (a : ℕ) → 0 < n → p < length run → a ≡ value_arity (node_at run p) → passes (n - 1 + a) (drop (p + 1) run) (p + 1) ≡ r
+  pass_on a some there e =
+      let d : suc (n - 1) ≡ n = omega arith in
+      ap (λ b. passes (n - 1 + b) (drop (p + 1) run) (p + 1)) e
+      ∙ sym (at_drop_more (λ xs. passes (suc (n - 1)) xs p) run p blank there)
+      ∙ ap (λ k. passes k (drop p run) p) d
+      ∙ inv
+
+  pub pass_out : length run - p < n → None ≡ r
+  pass_out h = sym (passes_short (drop p run) n p (rw (length-drop p run) h)) ∙ inv
+
 -- the same number of values and the same place, written otherwise
 same : (xs : List Node) {n m p q : ℕ} → n ≡ m → p ≡ q → passes n xs p ≡ passes m xs q
 same xs e d = λ i. passes (e i) xs (d i)
-
--- more values than nodes: it does not matter how many
-capped_alike : (xs : List Node) (n b p : ℕ) → length xs < 18446744073709551615 → b ≡ min n 18446744073709551615 → passes b xs p ≡ passes n xs p
-capped_alike xs n b p short capped = elim (cases_lt 18446744073709551615 n) [
-  | inr few ↦ same xs (omega arith) refl
-  | inl many ↦ passes_short xs b p (omega arith) ∙ sym (passes_short xs n p (omega arith))
-]
-
--- a turn of the loop, which caps the number of values: the cap is more than there are nodes
-pub pass_on : (nodes : List Node) (p i n a b : ℕ) {r : Option ℕ} → 0 < n → i < length nodes → length nodes < 2 ^ 64 → a ≡ value_arity (node_at nodes i) → b ≡ min (n - 1 + a) 18446744073709551615 → passes n (drop i nodes) (p + i) ≡ r → passes b (drop (i + 1) nodes) (p + (i + 1)) ≡ r
-pass_on nodes p i n a b some there fits e capped inv =
-    let d : suc (n - 1) ≡ n = omega arith in
-    capped_alike (drop (i + 1) nodes) (n - 1 + a) b (p + (i + 1)) (omega (arith, length-drop (i + 1) nodes)) capped
-    ∙ same (drop (i + 1) nodes) (ap (λ m. n - 1 + m) e) (sym (add_assoc p i 1))
-    ∙ sym (at_drop_more (λ xs. passes (suc (n - 1)) xs (p + i)) nodes i blank there)
-    ∙ same (drop i nodes) d refl
-    ∙ inv
 
 mutual
   passes_tree : (s : Slot) (t : Tree) (n p : ℕ) (post : List Node) → fits values s t ≡ true → passes (suc n) (run_of t ++ post) p ≡ passes n post (p + size t)
@@ -71,7 +66,3 @@ mutual
 -- where the tree at a place ends
 pub passes_one : (run : List Node) (p : ℕ) (s : Slot) (t : Tree) (post : List Node) → fits values s t ≡ true → drop p run ≡ run_of t ++ post → passes 1 (drop p run) p ≡ Some (p + size t)
 passes_one run p s t post f lies = ap (λ xs. passes 1 xs p) lies ∙ passes_tree s t 0 p post f
-
--- what ends there as the values do, ends behind the tree
-pub tree_passed : (run : List Node) (p : ℕ) {r : Option ℕ} → r ≡ passes 1 (drop p run) p → (s : Slot) (t : Tree) (post : List Node) → fits values s t ≡ true → drop p run ≡ run_of t ++ post → r ≡ Some (p + size t)
-tree_passed run p e s t post f lies = e ∙ passes_one run p s t post f lies

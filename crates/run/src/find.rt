@@ -17,16 +17,18 @@ pub fn end_of(run: &[Node], at: usize) -> Option<usize>
     ensures is { result ≡ passes 1 (drop at run.now) at }
     ensures tree { (s : Slot) (t : Tree) (rest : List Node) → fits values s t ≡ true → drop at run.now ≡ run_of t ++ rest → result ≡ Some (at + size t) }
 {
-    let nodes = run.get(at..)?;
-    // How many values are still to be passed. A sum that does not fit is more than there are nodes, and so never falls to 0.
+    let mut place = at;
+    // How many values are still to be passed; each has a node at least. A count may announce more than there is, and then no
+    // node behind it is looked at: a `for` over the nodes that stops there took twice the time.
     let mut open: usize = 1;
-    for (i, &node) in nodes.iter().enumerate() {
-        open = (open - 1).saturating_add(value_node::Values::arity(node) as usize);
-        if open == 0 {
-            return Some(at + i + 1);
+    while open > 0 {
+        if run.len().saturating_sub(place) < open {
+            return None;
         }
+        open = open - 1 + value_node::Values::arity(run[place]) as usize;
+        place += 1;
     }
-    None
+    Some(place)
 }
 
 // Of so many values in turn, the first of them at `first`, the place of the one that is named so. The loop only counts them:

@@ -2,3 +2,4 @@ mod Ascents
 pub mod Keeping
 mod Searches
 pub mod Tables
+mod Turns

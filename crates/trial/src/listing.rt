@@ -2,7 +2,7 @@
 
 use crate::extension::Extension;
 use crate::names::Names;
-use crate::notation::{EntityUid, Key, Quoted};
+use crate::notation::{key, quote};
 use model::kind::{ENTITY_KIND, ValueKind};
 use model::limits;
 use model::node::{Name, Node};
@@ -58,7 +58,9 @@ impl<'a> Writer<'a> {
     fn uid(&mut self, node: Node) -> Result<(), ListingError> {
         let type_name = self.name(node.a)?;
         let id = self.name(node.b)?;
-        write!(self.out, "{}", EntityUid { type_name, id })?;
+        self.out.push_str(type_name)?;
+        self.out.push_str("::")?;
+        quote(&mut self.out, id)?;
         Ok(())
     }
 
@@ -72,7 +74,7 @@ impl<'a> Writer<'a> {
             Ok(ValueKind::Long) => write!(self.out, "{}", node.number)?,
             Ok(ValueKind::String) => {
                 let text = self.name(node.a)?;
-                write!(self.out, "{}", Quoted(text))?;
+                quote(&mut self.out, text)?;
             }
             Ok(ValueKind::Uid) => self.uid(node)?,
             Ok(ValueKind::Extension) => {
@@ -107,8 +109,9 @@ impl<'a> Writer<'a> {
         self.out.push('{')?;
         for i in 0..count {
             self.out.push_str(if i > 0 { ", " } else { " " })?;
-            let key = self.name(self.peek()?.field)?;
-            write!(self.out, "{}: ", Key(key))?;
+            let name = self.name(self.peek()?.field)?;
+            key(&mut self.out, name)?;
+            self.out.push_str(": ")?;
             self.value(nesting)?;
         }
         self.out.push_str(if count > 0 { " }" } else { "}" })?;

@@ -1,27 +1,19 @@
 // How Cedar writes names and ids.
 
-use std::fmt;
+use std::alloc::AllocError;
 
-// A text in quotes.
-#[derive(Clone, Copy)]
-pub(crate) struct Quoted<'a>(pub(crate) &'a str);
-
-impl fmt::Display for Quoted<'_> {
-    fn fmt<W: fmt::Write>(&self, f: &mut fmt::Formatter<W>) -> fmt::Result {
-        f.write_char('"')?;
-        for c in self.0.chars() {
-            if matches!(c, '"' | '\\') {
-                f.write_char('\\')?;
-            }
-            f.write_char(c)?;
+// Writes a text in quotes, with a backslash in front of each quote and backslash. It goes to the text at once: a formatter
+// takes a character in three times the time.
+pub(crate) fn quote(out: &mut String, text: &str) -> Result<(), AllocError> {
+    out.push('"')?;
+    for c in text.chars() {
+        if matches!(c, '"' | '\\') {
+            out.push('\\')?;
         }
-        f.write_char('"')
+        out.push(c)?;
     }
+    out.push('"')
 }
-
-// A record field's name or a tag's key: in quotes where it is no identifier.
-#[derive(Clone, Copy)]
-pub(crate) struct Key<'a>(pub(crate) &'a str);
 
 // A letter or `_`, and then letters, digits and `_`.
 fn is_identifier(text: &str) -> bool {
@@ -33,25 +25,11 @@ fn is_identifier(text: &str) -> bool {
     }
 }
 
-impl fmt::Display for Key<'_> {
-    fn fmt<W: fmt::Write>(&self, f: &mut fmt::Formatter<W>) -> fmt::Result {
-        if is_identifier(self.0) {
-            f.write_str(self.0)
-        } else {
-            write!(f, "{}", Quoted(self.0))
-        }
-    }
-}
-
-// The uid of an entity.
-#[derive(Clone, Copy)]
-pub(crate) struct EntityUid<'a> {
-    pub(crate) type_name: &'a str,
-    pub(crate) id: &'a str,
-}
-
-impl fmt::Display for EntityUid<'_> {
-    fn fmt<W: fmt::Write>(&self, f: &mut fmt::Formatter<W>) -> fmt::Result {
-        write!(f, "{}::{}", self.type_name, Quoted(self.id))
+// Writes a record field's name or a tag's key: in quotes where it is no identifier.
+pub(crate) fn key(out: &mut String, text: &str) -> Result<(), AllocError> {
+    if is_identifier(text) {
+        out.push_str(text)
+    } else {
+        quote(out, text)
     }
 }

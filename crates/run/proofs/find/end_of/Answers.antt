@@ -1,17 +1,21 @@
-use Rattle.std.proofs.Common.{arith}
-use Rattle.std.proofs.lemmas.Grind.{common_steps}
-use Rattle.run.proofs.Passing.{pass_on, tree_passed}
+use Rattle.std.proofs.Common.{◌≡◌, ◌-◌, ◌<◌, length, drop, Some, ◌∙◌, arith}
+use Rattle.run.specs.Places.{passes}
+use Rattle.run.proofs.Passing.{pass_on, pass_out, passes_one}
 use Rattle.run.proofs.find.end_of.Goals as goal
 
-pub returns-in_err-nodes-clause-tree : goal.returns-in_err-nodes-clause-tree
-returns-in_err-nodes-clause-tree c = tree_passed c.args.run.now c.args.at (grind (arith, common_steps))
+pub loop-open-preserved : goal.loop-open-preserved
+loop-open-preserved c =
+    let there : c.loop-open.place < length c.args.run.now = omega arith in
+    pass_on c.args.run.now c.loop-open.place c.loop-open.open c.loop-open.invariant c.arity.result c.loop-open-test.true there c.arity.ensures
 
-pub returns-then-open-eq0-clause-tree : goal.returns-then-open-eq0-clause-tree
-returns-then-open-eq0-clause-tree c = tree_passed c.args.run.now c.args.at (grind (arith, common_steps))
+pub returns-then-saturating_sub-open : goal.returns-then-saturating_sub-open
+returns-then-saturating_sub-open c =
+    let short : length c.args.run.now - c.loop-open.place < c.loop-open.open = omega arith in
+    let e = pass_out c.args.run.now c.loop-open.place c.loop-open.open c.loop-open.invariant short in
+    record { is = e; tree = λ s t rest f lies. e ∙ passes_one c.args.run.now c.args.at s t rest f lies }
 
-pub returns-clause-tree : goal.returns-clause-tree
-returns-clause-tree c = tree_passed c.args.run.now c.args.at (grind (arith, common_steps))
-
-pub loop-i-preserved : goal.loop-i-preserved
-loop-i-preserved c =
-    (omega arith, pass_on c.in_ok-nodes.nodes.now c.args.at c.loop-i.i c.loop-i.open c.arity.result c.saturating_add-open.result c.loop-i.invariant.0 c.loop-i-test.true (omega arith) c.arity.ensures c.saturating_add-open.ensures c.loop-i.invariant.1)
+pub returns : goal.returns
+returns c =
+    let z : c.loop-open.open ≡ 0 = omega arith in
+    let e : Some c.loop-open.place ≡ passes 1 (drop c.args.at c.args.run.now) c.args.at = rw z at c.loop-open.invariant in
+    record { is = e; tree = λ s t rest f lies. e ∙ passes_one c.args.run.now c.args.at s t rest f lies }
