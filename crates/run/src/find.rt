@@ -19,7 +19,7 @@ pub fn end_of(run: &[Node], at: usize) -> Option<usize>
 {
     let mut place = at;
     // How many values are still to be passed; each has a node at least. A count may announce more than there is, and then no
-    // node behind it is looked at: a `for` over the nodes that stops there took twice the time.
+    // node behind it is looked at. A `for` over the nodes that stops there took up to 1.8 times the time.
     let mut open: usize = 1;
     while open > 0 {
         if run.len().saturating_sub(place) < open {

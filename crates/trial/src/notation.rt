@@ -7,7 +7,7 @@ use std::alloc::AllocError;
 pub(crate) fn quote(out: &mut String, text: &str) -> Result<(), AllocError> {
     out.push('"')?;
     for c in text.chars() {
-        if matches!(c, '"' | '\\') {
+        if c == '"' || c == '\\' {
             out.push('\\')?;
         }
         out.push(c)?;
